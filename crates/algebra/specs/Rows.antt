@@ -1,0 +1,43 @@
+-- Code rows over a field, and rows that are filled to be one.
+use mathlib.Core.Path.{_≡_}
+use mathlib.Core.Bool.{Bool, true, false, _&&_, _||_}
+use mathlib.Core.List.{List, [], _∷_}
+use Prim.Native.Nat.{ℕ, suc, _≤_, _<_}
+use lib.Dec.{eqb, leb, ltb}
+use lib.ListN.{length, getD}
+use Rattle.fields.specs.Rings.{RingOps, FieldOps, taken, sum, power}
+
+-- the sum of w(k) × p(k)^j over the k below n: moment j of the weights w at the points p
+abbrev pub moment : RingOps → ℕ → (ℕ → ℕ) → (ℕ → ℕ) → ℕ → ℕ
+moment o n p w j = sum o n (λ k. o .mul (w k) (power o (p k) j))
+
+-- syndrome j of a row: the sum over all columns i of c(i) × point(i)^j
+abbrev pub syndrome : FieldOps → List ℕ → ℕ → ℕ
+syndrome f cs j = moment (f .ring) (length cs) (f .point) (λ i. getD cs i 0) j
+
+-- a code row with r checks: a row of elements whose syndromes 1 to r are 0
+pub record CodeRow (f : FieldOps) (r : ℕ) (cs : List ℕ) : Type 0 where
+  pub elements : (i : ℕ) → i < length cs → getD cs i 0 < f .ring .order
+  pub balanced : (j : ℕ) → 1 ≤ j → j ≤ r → syndrome f cs j ≡ 0
+
+-- i is one of the columns ms
+abbrev pub among : ℕ → List ℕ → Bool
+among i [] = false
+among i (m ∷ ms) = eqb i m || among i ms
+
+-- the columns ms rise from b on, and each is below n
+abbrev pub rising : ℕ → ℕ → List ℕ → Bool
+rising b n [] = true
+rising b n (m ∷ ms) = leb b m && (ltb m n && rising (suc m) n ms)
+
+-- ys is a code row with as many checks as there are columns ms, and agrees with xs in all other columns; an entry of xs of the
+-- order or above is taken as 0
+pub record FillOf (f : FieldOps) (ms xs ys : List ℕ) : Type 0 where
+  pub long : length ys ≡ length xs
+  pub code : CodeRow f (length ms) ys
+  pub kept : (i : ℕ) → i < length xs → among i ms ≡ false → getD ys i 0 ≡ taken (f .ring .order) (getD xs i 0)
+
+-- ys is that row, and there is no other
+pub record Filled (f : FieldOps) (ms xs ys : List ℕ) : Type 0 where
+  pub is : FillOf f ms xs ys
+  pub only : (zs : List ℕ) → FillOf f ms xs zs → zs ≡ ys
