@@ -65,12 +65,6 @@ unfoldable pub power : RingOps → ℕ → ℕ → ℕ
 power o a zero = 1
 power o a (suc j) = o .mul a (power o a j)
 
--- zs is ys with a × xs added in its lanes below w, and as it was from there on
-pub record ScaleAdded (o : RingOps) (w a : ℕ) (xs ys zs : List ℕ) : Type 0 where
-  pub long : length zs ≡ length ys
-  pub low : (l : ℕ) → l < w → l < length ys → getD zs l 0 ≡ o .add (getD ys l 0) (o .mul a (getD xs l 0))
-  pub high : (l : ℕ) → w ≤ l → getD zs l 0 ≡ getD ys l 0
-
 -- entry l of row i
 abbrev pub entry : List (List ℕ) → ℕ → ℕ → ℕ
 entry rows i l = getD (getD rows i []) l 0

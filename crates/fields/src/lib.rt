@@ -1,9 +1,10 @@
 // Rings and fields on the numbers below an order: the two traits that a field shows, and seven fields by a kind number.
 ghost use mathlib.Core.Path.{_≡_};
 ghost use Prim.Native.Nat.{ℕ, min, _<_, _≤_};
-ghost use lib.ListN.{length};
+ghost use lib.ListN.{length, getD};
 ghost use denote.Ref.{now};
-ghost use Rattle.fields.specs.Rings.{RingOps, RingLaws, Inverses, Points, ScaleAdded, Combined};
+ghost use Rattle.fields.specs.Rings.{RingOps, RingLaws, Inverses, Points, Combined};
+ghost use Rattle.basics.specs.Lists.{Updated};
 
 mod kind;
 mod tables;
@@ -13,8 +14,10 @@ pub use kind::KindFieldField;
 pub use kind::KindFieldRing;
 pub use kind::UnknownKind;
 
-// How many lanes the rows of `combine` have: the most check columns that a page has.
+// As many lanes as a page has check columns at most.
 pub const LANES: usize = 64;
+
+pub type Lanes = [u16; LANES];
 
 // A ring. Its meaning is `ops`; every argument of the order or above is taken as 0.
 pub trait Ring {
@@ -35,8 +38,8 @@ pub trait Ring {
         ensures { λ r. ⌜ r ≡ ops (now (self .entry)) .mul a b ⌝ };
 
     // Adds a × xs to the lanes of `sums` below `width`. A field may override it with a faster body.
-    fn scale_add(&self, a: u16, xs: &[u16; 64], sums: &mut [u16; 64], width: usize)
-        ensures { λ _. ⌜ ScaleAdded (ops (now (self .entry))) width a (now (xs .entry)) (now (sums .entry)) (now (sums .exit)) ⌝ }
+    fn scale_add(&self, a: u16, xs: &Lanes, sums: &mut Lanes, width: usize)
+        ensures { λ _. ⌜ Updated width (λ l. ops (now (self .entry)) .add (getD (now (sums .entry)) l 0) (ops (now (self .entry)) .mul a (getD (now (xs .entry)) l 0))) (now (sums .entry)) (now (sums .exit)) ⌝ }
     {
         for l in 0..width.min(LANES) {
             sums[l] = self.add(sums[l], self.mul(a, xs[l]));
@@ -44,10 +47,10 @@ pub trait Ring {
     }
 
     // The sum of coefficient × row, in the lanes below `width`. Syndromes and check symbols come of it.
-    fn combine(&self, coefficients: &[u16], rows: &[[u16; 64]], width: usize) -> [u16; 64]
+    fn combine(&self, coefficients: &[u16], rows: &[Lanes], width: usize) -> Lanes
         ensures { λ r. ⌜ Combined (ops (now (self .entry))) width (min (length (now (coefficients .entry))) (length (now (rows .entry)))) (now (coefficients .entry)) (now (rows .entry)) r ⌝ }
     {
-        let mut sums = [0; 64];
+        let mut sums = [0; LANES];
         for i in 0..coefficients.len().min(rows.len()) {
             self.scale_add(coefficients[i], &rows[i], &mut sums, width);
         }

@@ -3,7 +3,7 @@ use mathlib.Core.Bool.{Bool, _||_}
 use Prim.Native.Nat.{ℕ, _-_, _*_, _≤_, _<_, min}
 use lib.Dec.{ltb}
 use Rattle.std.specs.declared.option.Option.{Option}
-use Rattle.plans.specs.Checks.{check, _or-else_}
+use Rattle.basics.specs.Checks.{check, _or-else_}
 use Rattle.plans.specs.declared.numbers.Numbers.{Numbers}
 use Rattle.plans.specs.declared.fault.Refusal.{Refusal}
 use Rattle.plans.specs.declared.fault.OrderFault.{OrderFault}

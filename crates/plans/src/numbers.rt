@@ -1,7 +1,7 @@
 // The numbers of a page, and which of them can be ordered.
 ghost use mathlib.Core.Path.{_≡_};
 ghost use Rattle.std.specs.Vec.{made};
-ghost use Rattle.plans.specs.Checks.{verdict};
+ghost use Rattle.basics.specs.Checks.{verdict};
 ghost use Rattle.plans.specs.Orders.{orderFault, Ranges};
 use crate::fault::OrderFault;
 

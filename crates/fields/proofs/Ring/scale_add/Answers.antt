@@ -1,19 +1,20 @@
-use mathlib.Core.Path.{_≡_}
-use Prim.Native.Nat.{_<_, min}
+use mathlib.Core.Path.{_≡_, ap₂, _∙_}
+use Prim.Native.Nat.{_<_, _≤_, min}
 use native.Mathlib.Omega.{arith}
-use lib.ListN.{length}
-use Rattle.fields.proofs.Lanes.{scale-none, scale-more, scale-all}
+use lib.ListN.{length, getD}
+use Rattle.basics.proofs.Updating.{updated-none, updated-more, updated-all}
 use Rattle.fields.proofs.Ring.scale_add.Needs as need
 
 pub loop-l-holds : need.loop-l-holds
-loop-l-holds g c = scale-none _ _ _ _
+loop-l-holds g c = updated-none _ _
 
 pub loop-l-again : need.loop-l-again
 loop-l-again g c =
-    let h : c .loop-l .l < length (c .args .sums .now) = omega arith in
-    scale-more _ _ _ _ _ _ _ _ (c .loop-l .inv) h (c .mul .ensures) (c .add .ensures)
+    let o = g .Self·Ring .ops (c .args .self .now) in let l = c .loop-l .l in
+    let h : l < length (c .args .sums .now) = omega arith in
+    updated-more _ _ l _ _ (c .loop-l .inv) h (c .add .ensures ∙ ap₂ (o .add) (c .loop-l .inv .old l (omega arith)) (c .mul .ensures))
 
 pub returns : need.returns
 returns g c =
     let e : c .loop-l .l ≡ min (c .args .width) (length (c .args .sums .now)) = omega arith in
-    scale-all _ _ _ _ _ _ _ e (c .loop-l .inv)
+    updated-all _ _ _ _ _ e (c .loop-l .inv)
