@@ -11,6 +11,7 @@ positive f = omega arith
 
 module _ {o : RingOps} (l : Solid o) where
   open RingOps o using (order as q, neg, add as _⊕_, mul as _⊗_)
+
   infixl 60 _⊕_
   infixl 70 _⊗_
   pub add-assoc : (a b c : ℕ) → a ⊕ b ⊕ c ≡ a ⊕ (b ⊕ c)
@@ -84,6 +85,7 @@ pub ruleset ring = (distrib, distrib-right, mul-assoc, mul-comm, mul-left, add-a
 
 module _ {o : RingOps} (l : Solid o) where
   open RingOps o using (order as q, neg, add as _⊕_, mul as _⊗_)
+
   infixl 60 _⊕_
   infixl 70 _⊗_
   pub neg-add : (a b : ℕ) → neg (a ⊕ b) ≡ neg a ⊕ neg b
@@ -124,6 +126,7 @@ pub ruleset signed = (neg-left, neg-right, neg-add, neg-neg, neg-zero, add-neg, 
 
 module _ {o : RingOps} (l : Solid o) {inv : ℕ → ℕ} (d : Divides o inv) where
   open RingOps o using (order as q, neg, add as _⊕_, mul as _⊗_)
+
   infixl 60 _⊕_
   infixl 70 _⊗_
   -- a nonzero factor of 0 leaves 0

@@ -10,6 +10,7 @@ use Rattle.algebra.proofs.Solve.{ring, mul-zero, zero-mul, zero-add as zero-pl
 
 module _ {o : RingOps} (l : Solid o) where
   open RingOps o using (order as q, neg, add as _⊕_, mul as _⊗_)
+
   infixl 60 _⊕_
   infixl 70 _⊗_
   pub sum-in : (n : ℕ) (f : ℕ → ℕ) → sum o n f < q
