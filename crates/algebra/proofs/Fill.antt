@@ -20,6 +20,7 @@ pub record Filled (o : RingOps) (n r : ℕ) (p x col y : ℕ → ℕ) : Type 0 w
 
 module _ {o : RingOps} (l : Solid o) where
   open RingOps o using (order as q, neg, add as _⊕_, mul as _⊗_)
+
   infixl 60 _⊕_
   infixl 70 _⊗_
   -- the weights w k, each at its column col k

@@ -6,3 +6,7 @@ pub mod Moments
 pub mod Weights
 pub mod Roots
 pub mod Fill
+pub mod Distance
+pub mod Recur
+pub mod Poly
+pub mod Quotient

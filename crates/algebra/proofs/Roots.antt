@@ -27,6 +27,7 @@ unit-off (suc k) (suc j) h = unit-off k j (λ e. h (ap suc e))
 
 module _ {o : RingOps} (l : Solid o) where
   open RingOps o using (order as q, neg, add as _⊕_, mul as _⊗_)
+
   infixl 60 _⊕_
   infixl 70 _⊗_
   pub unit-in : (k j : ℕ) → unit k j < q

@@ -22,6 +22,7 @@ pub record Meets (o : RingOps) (n b : ℕ) (p s w : ℕ → ℕ) : Type 0 where
 
 module _ {o : RingOps} (l : Solid o) {inv : ℕ → ℕ} (d : Divides o inv) where
   open RingOps o using (order as q, neg, add as _⊕_, mul as _⊗_)
+
   infixl 60 _⊕_
   infixl 70 _⊗_
   -- the weights for all points from those v for the others, at the targets s (j+1) - p 0 × s j
