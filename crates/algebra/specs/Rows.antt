@@ -1,8 +1,8 @@
 -- Code rows over a field, and rows that are filled to be one.
 use mathlib.Core.Path.{_≡_}
-use mathlib.Core.Bool.{Bool, true, false, _&&_, _||_}
+use mathlib.Core.Bool.{Bool, true, false, cond, _&&_, _||_}
 use mathlib.Core.List.{List, [], _∷_}
-use Prim.Native.Nat.{ℕ, suc, _≤_, _<_}
+use Prim.Native.Nat.{ℕ, suc, _+_, _≤_, _<_}
 use lib.Dec.{eqb, leb, ltb}
 use lib.ListN.{length, getD}
 use Rattle.fields.specs.Rings.{RingOps, FieldOps, taken, sum, power}
@@ -24,6 +24,12 @@ pub record CodeRow (f : FieldOps) (r : ℕ) (cs : List ℕ) : Type 0 where
 abbrev pub among : ℕ → List ℕ → Bool
 among i [] = false
 among i (m ∷ ms) = eqb i m || among i ms
+
+-- how many columns, from i on and not among ms, have different entries
+abbrev pub differing : List ℕ → ℕ → List ℕ → List ℕ → ℕ
+differing ms i [] ys = 0
+differing ms i (x ∷ xs) [] = 0
+differing ms i (x ∷ xs) (y ∷ ys) = cond (among i ms || eqb x y) 0 1 + differing ms (suc i) xs ys
 
 -- the columns ms rise from b on, and each is below n
 abbrev pub rising : ℕ → ℕ → List ℕ → Bool

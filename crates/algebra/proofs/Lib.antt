@@ -1,0 +1,12 @@
+pub mod Ring
+pub mod Solve
+pub mod Count
+pub mod Sum
+pub mod Moments
+pub mod Weights
+pub mod Roots
+pub mod Fill
+pub mod Distance
+pub mod Recur
+pub mod Poly
+pub mod Quotient
