@@ -4,7 +4,6 @@ use mathlib.Core.Bool.{Bool, true, false, cond}
 use mathlib.Core.List.{List}
 use mathlib.Core.Logic.{_⊎_, inl, inr}
 use Prim.Native.Nat.{ℕ, suc, _-_, _≤_, _<_}
-use native.Mathlib.Decide.{ℕ-discrete}
 use native.Mathlib.Omega.{arith}
 use lib.ListN.{length, getD}
 use Rattle.std.proofs.shelf.Tests.{both-ways, cases-bool, cond-true, cond-false, cond-both}
@@ -12,17 +11,17 @@ use Rattle.fields.specs.Rings.{RingOps, FieldOps, RingLaws, Inverses, Points, t
 use Rattle.fields.proofs.Guard.{taken-in}
 use Rattle.algebra.specs.Rows.{moment, syndrome, CodeRow, among, rising, FillOf, Filled}
 use Rattle.algebra.specs.Polynomials.{turned, quotient, gamma, weight, filler}
-use Rattle.algebra.proofs.Count.{count, count-all, count-among}
+use Rattle.algebra.proofs.Count.{count-all, count-among}
 use Rattle.algebra.proofs.Ring.{Solid, Divides, solid, divides}
-use Rattle.algebra.proofs.Solve.{ring, signed, mul-zero, zero-add, neg-neg, nonzero-mul, positive}
+use Rattle.algebra.proofs.Solve.{ring, signed, mul-zero, zero-add, neg-neg, nonzero-mul}
 use Rattle.algebra.proofs.Sum.{sum-in, sum-same, sum-neg, sum-scale, sum-only, power-nonzero}
 use Rattle.algebra.proofs.Moments.{Apart, moment-add, moment-up}
 use Rattle.algebra.proofs.Weights.{weights, Meets}
 use Rattle.algebra.proofs.Roots.{value, values-moments}
 use Rattle.algebra.proofs.Columns.{rising-below, rising-apart, among-entry, entry-among, scatter, scatter-on, scatter-off, scatter-moment}
 use Rattle.algebra.proofs.Distance.{same-code-rows}
-use Rattle.algebra.proofs.Poly.{Normal, product-normal, product-root, turned-reverse}
-use Rattle.algebra.proofs.Quotient.{quotient-normal, root-left, root-count}
+use Rattle.algebra.proofs.Poly.{turned-reverse}
+use Rattle.algebra.proofs.Quotient.{without-others, without-itself}
 
 module _ {o : RingOps} (l : Solid o) {inv : ℕ → ℕ} (d : Divides o inv) (r : ℕ) (p : ℕ → ℕ) (a : Apart (o .order) r p)
     (alive : (k : ℕ) → k < r → 0 < p k) where
@@ -34,29 +33,12 @@ module _ {o : RingOps} (l : Solid o) {inv : ℕ → ℕ} (d : Divides o inv) (r 
   abbrev without : ℕ → ℕ → ℕ
   without k = quotient o (p k) (gamma o r p)
 
-  normal : 0 < r → Normal q (suc (r - 1)) (gamma o r p)
-  normal h = let e : count r (λ _. true) ≡ suc (r - 1) = omega (arith, count-all r) in subst (λ m. Normal q m (gamma o r p)) e (product-normal l r (λ _. true) p)
-
-  root : (k : ℕ) → k < r → turned o (suc (r - 1)) (gamma o r p) (p k) ≡ 0
-  root k h = let e : count r (λ _. true) ≡ suc (r - 1) = omega (arith, count-all r) in
-      subst (λ m. turned o m (gamma o r p) (p k) ≡ 0) e (product-root l r (λ _. true) p k h refl)
-
   -- its turned value is 0 at the other points, and not at its own
   others : (k m : ℕ) → k < r → m < r → (m ≡ k → ⊥) → turned o (r - 1) (without k) (p m) ≡ 0
-  others k m h g f = root-left l d (r - 1) (p k) (p m) (gamma o r p) (normal (omega arith)) (root k h) (a .inside k h) (a .inside m g)
-      (λ e. f (a .distinct m k g h e)) (root m g)
+  others k m h g f = subst (λ c. turned o (c - 1) (without k) (p m) ≡ 0) (count-all r) (without-others l d r (λ _. true) p a k h refl m g refl f)
 
   itself : (k : ℕ) → k < r → 0 < turned o (r - 1) (without k) (p k)
-  itself k h = positive (λ z. omega (
-    arith,
-    count-all r,
-    root-count l d r (r - 1) (λ _. true) p (without k) a (quotient-normal l (r - 1) (p k) (gamma o r p) (normal (omega arith)) (root k h))
-        (λ i g _. at z i g (ℕ-discrete i k)),
-  ))
-    where
-      at : turned o (r - 1) (without k) (p k) ≡ 0 → (i : ℕ) → i < r → Dec (i ≡ k) → turned o (r - 1) (without k) (p i) ≡ 0
-      at z i g (yes e) = ap (λ m. turned o (r - 1) (without k) (p m)) e ∙ z
-      at z i g (no f) = others k i h g f
+  itself k h = subst (λ c. 0 < turned o (c - 1) (without k) (p k)) (count-all r) (without-itself l d r (λ _. true) p a k h refl)
 
   -- column k of the table, as a polynomial
   filler-value : (k x : ℕ) → k < r → value o r (λ s. filler o inv r p s k) x ≡ neg (weight o inv r p k) ⊗ turned o (r - 1) (without k) x

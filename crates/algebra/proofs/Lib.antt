@@ -11,3 +11,5 @@ pub mod Recur
 pub mod Poly
 pub mod Quotient
 pub mod Filling
+pub mod Inverse
+pub mod Find
