@@ -5,8 +5,11 @@ pub mod Sum
 pub mod Moments
 pub mod Weights
 pub mod Roots
-pub mod Fill
+pub mod Columns
 pub mod Distance
 pub mod Recur
 pub mod Poly
 pub mod Quotient
+pub mod Filling
+pub mod Inverse
+pub mod Find

@@ -47,6 +47,11 @@ module _ {o : RingOps} (l : Solid o) where
       ∙ sum-add l n (λ k. w k ⊗ (p k ⊗ power o (p k) j)) (λ k. b ⊗ (w k ⊗ power o (p k) j))
       ∙ ap (λ t. sum o n (λ k. w k ⊗ (p k ⊗ power o (p k) j)) ⊕ t) (sum-scale l n b (λ k. w k ⊗ power o (p k) j))
 
+  -- a moment one up: each weight times its point
+  pub moment-up : (n : ℕ) (p w : ℕ → ℕ) (j : ℕ) → moment o n p w (suc j) ≡ moment o n p (λ k. w k ⊗ p k) j
+  unfolding power
+  moment-up n p w j = sum-same l n (λ k. w k ⊗ (p k ⊗ power o (p k) j)) (λ k. w k ⊗ p k ⊗ power o (p k) j) (λ k _. sym (l .mul-assoc _ _ _))
+
   -- with weight 0 at the first point, only the others count
   pub moment-rest : (n : ℕ) (p w : ℕ → ℕ) (j : ℕ) → w 0 ≡ 0
       → moment o (suc n) p w j ≡ moment o n (λ k. p (suc k)) (λ k. w (suc k)) j

@@ -9,7 +9,7 @@ use Rattle.algebra.specs.Polynomials.{unit, times, product, turned}
 use Rattle.algebra.proofs.Count.{count, count-on, count-off}
 use Rattle.algebra.proofs.Ring.{Solid, Divides}
 use Rattle.algebra.proofs.Solve.{ring, signed, mul-zero, zero-mul, nonzero-mul, equal-from-difference, positive}
-use Rattle.algebra.proofs.Sum.{sum-in, sum-first, sum-last, sum-same, sum-add, sum-scale}
+use Rattle.algebra.proofs.Sum.{sum-in, sum-first, sum-last, sum-same, sum-add, sum-scale, sum-reverse}
 use Rattle.algebra.proofs.Roots.{unit-in}
 
 -- a polynomial of degree at most n with constant 1
@@ -65,6 +65,19 @@ module _ {o : RingOps} (l : Solid o) where
 
   pub turned-same : (n x : ℕ) (b c : ℕ → ℕ) → ((j : ℕ) → b j ≡ c j) → turned o n b x ≡ turned o n c x
   turned-same n x b c e = sum-same l (suc n) (λ j. b j ⊗ power o x (n - j)) (λ j. c j ⊗ power o x (n - j)) (λ j _. ap (λ t. t ⊗ power o x (n - j)) (e j))
+
+  -- its terms in the other order
+  pub turned-reverse : (n x : ℕ) (c : ℕ → ℕ) → turned o n c x ≡ sum o (suc n) (λ j. c (n - j) ⊗ power o x j)
+  turned-reverse n x c =
+      sum-reverse l (suc n) (λ j. c j ⊗ power o x (n - j))
+      ∙ sum-same l (suc n) (λ j. c (suc n - 1 - j) ⊗ power o x (n - (suc n - 1 - j))) (λ j. c (n - j) ⊗ power o x j)
+      (λ j h. ap₂ (λ u v. c u ⊗ power o x v) (down j) (back j h))
+    where
+      down : (j : ℕ) → suc n - 1 - j ≡ n - j
+      down j = omega arith
+
+      back : (j : ℕ) → j < suc n → n - (suc n - 1 - j) ≡ j
+      back j h = omega arith
 
   -- the turned value of c times 1 - a z
   pub turned-times : (n a x : ℕ) (c : ℕ → ℕ) → Normal q n c → turned o (suc n) (times o a c) x ≡ (x ⊕ neg a) ⊗ turned o n c x

@@ -2,16 +2,16 @@
 use mathlib.Core.Path.{_≡_, refl, sym, ap, ap₂, _∙_, subst}
 use mathlib.Core.Bool.{Bool, true, false}
 use Prim.Native.Nat.{ℕ, zero, suc, _-_, _≤_, _<_}
-use native.Mathlib.Decide.{le-ind}
+use native.Mathlib.Decide.{le-ind, ℕ-discrete}
 use native.Mathlib.Omega.{arith}
 use Rattle.fields.specs.Rings.{RingOps}
 use Rattle.algebra.specs.Polynomials.{unit, times, product, turned, quotient}
-use Rattle.algebra.proofs.Count.{count, count-on, count-off}
+use Rattle.algebra.proofs.Count.{count, count-some, count-on, count-off}
 use Rattle.algebra.proofs.Ring.{Solid, Divides}
 use Rattle.algebra.proofs.Solve.{ring, cancel-left, zero-from-mul, equal-from-difference, positive}
 use Rattle.algebra.proofs.Sum.{sum-in}
 use Rattle.algebra.proofs.Moments.{Apart}
-use Rattle.algebra.proofs.Poly.{Normal, product-on, product-off, turned-more, turned-first, turned-same, turned-times}
+use Rattle.algebra.proofs.Poly.{Normal, product-on, product-off, product-normal, product-root, turned-more, turned-first, turned-same, turned-times}
 
 -- the first n points stay apart without the last
 pub apart-less : (q n : ℕ) (p : ℕ → ℕ) → Apart q (suc n) p → Apart q n p
@@ -110,3 +110,33 @@ module _ {o : RingOps} (l : Solid o) where
             ∙ ap (λ b. b j) (sym (product-on l n t p e))
         go false e ih = ih c (apart-less q n p a) (subst (λ m. Normal q m c) (count-off n t e) i)
             (λ k h. subst (λ m. Rooted (suc n) m t p c) (count-off n t e) r k (omega arith)) j ∙ ap (λ b. b j) (sym (product-off l n t p e))
+
+    -- the product without the factor of one of its columns, k
+    module _ (n : ℕ) (t : ℕ → Bool) (p : ℕ → ℕ) (a : Apart q n p) (k : ℕ) (h : k < n) (e : t k ≡ true) where
+      degree : count n t ≡ suc (count n t - 1)
+      degree = omega (arith, count-some n k t h e)
+
+      normal : Normal q (suc (count n t - 1)) (product o n t p)
+      normal = subst (λ m. Normal q m (product o n t p)) degree (product-normal l n t p)
+
+      root : (i : ℕ) → i < n → t i ≡ true → turned o (suc (count n t - 1)) (product o n t p) (p i) ≡ 0
+      root i g b = subst (λ m. turned o m (product o n t p) (p i) ≡ 0) degree (product-root l n t p i g b)
+
+      -- ITS OTHER ROOTS are left
+      pub without-others : (i : ℕ) → i < n → t i ≡ true → (i ≡ k → ⊥) → turned o (count n t - 1) (quotient o (p k) (product o n t p)) (p i) ≡ 0
+      without-others i g b f = root-left (count n t - 1) (p k) (p i) (product o n t p) normal (root k h e) (a .inside k h) (a .inside i g)
+          (λ s. f (a .distinct i k g h s)) (root i g b)
+
+      -- and this one is not
+      pub without-itself : 0 < turned o (count n t - 1) (quotient o (p k) (product o n t p)) (p k)
+      without-itself = positive (λ z. omega (
+        arith,
+        degree,
+        root-count n (count n t - 1) t p (quotient o (p k) (product o n t p)) a (quotient-normal (count n t - 1) (p k) (product o n t p) normal (root k h e))
+            (λ i g b. at z i g b (ℕ-discrete i k)),
+      ))
+        where
+          at : turned o (count n t - 1) (quotient o (p k) (product o n t p)) (p k) ≡ 0 → (i : ℕ) → i < n → t i ≡ true → Dec (i ≡ k)
+              → turned o (count n t - 1) (quotient o (p k) (product o n t p)) (p i) ≡ 0
+          at z i g b (yes s) = ap (λ m. turned o (count n t - 1) (quotient o (p k) (product o n t p)) (p m)) s ∙ z
+          at z i g b (no f) = without-others i g b f
