@@ -1,6 +1,5 @@
 -- The decoder on rows that are lists: the steps give the code row that is close enough.
 use mathlib.Core.Path.{_≡_, sym, _∙_}
-use mathlib.Core.Bool.{Bool}
 use mathlib.Core.List.{List}
 use Prim.Native.Nat.{ℕ, _+_, _*_, _-_, _≤_, _<_}
 use native.Mathlib.Nat.{zero-add}
@@ -11,6 +10,7 @@ use Rattle.fields.specs.Rings.{FieldOps, RingLaws, Inverses, Points}
 use Rattle.algebra.specs.Rows.{CodeRow, among, differing}
 use Rattle.algebra.proofs.Count.{count, count-among, differing-count}
 use Rattle.algebra.proofs.Ring.{solid, divides}
+use Rattle.algebra.proofs.Distance.{columns-apart}
 use Rattle.algebra.proofs.Find.{Least}
 use Rattle.algebra.proofs.Decode.{Close, remaining, damaged, corrected, decodes}
 
@@ -27,10 +27,7 @@ module _ (f : FieldOps) (inv : ℕ → ℕ) (laws : RingLaws (f .ring)) (i : Inv
       → 2 * differing ms 0 xs ys + length ms ≤ r
       → Close (f .ring) (length ys) r (f .point) (λ k. among k ms) (λ k. getD xs k 0) (λ k. getD ys k 0)
   close r ms xs ys cx e short inside few = record {
-    points = record {
-      inside = λ k h. p .point-in k;
-      distinct = λ a b ha hb. p .point-apart a b (omega arith) (omega arith);
-    };
+    points = columns-apart f p (length ys) short;
     alive = λ k h. p .point-nonzero k (omega arith);
     x-in = λ k h. cx .elements k (omega arith);
     y-in = inside;

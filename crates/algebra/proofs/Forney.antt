@@ -5,7 +5,7 @@ use Prim.Native.Nat.{ℕ, zero, suc, _-_, _≤_, _<_}
 use native.Mathlib.Omega.{arith}
 use Rattle.fields.specs.Rings.{RingOps, sum, power}
 use Rattle.algebra.specs.Rows.{moment}
-use Rattle.algebra.specs.Polynomials.{times, product, turned, quotient}
+use Rattle.algebra.specs.Polynomials.{times, product, quotient}
 use Rattle.algebra.proofs.Count.{count, count-some}
 use Rattle.algebra.proofs.Ring.{Solid, Divides}
 use Rattle.algebra.proofs.Solve.{ring, signed, mul-zero, zero-mul, zero-add, nonzero-mul, equal-from-difference, positive}

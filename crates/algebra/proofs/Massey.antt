@@ -9,9 +9,8 @@ use Rattle.algebra.specs.Polynomials.{unit}
 use Rattle.algebra.proofs.Ring.{Solid, Divides}
 use Rattle.algebra.proofs.Solve.{signed, zero-mul, zero-add as zero-plus, divide-mul}
 use Rattle.algebra.proofs.Sum.{sum-in, sum-first, sum-same, sum-add, sum-scale, sum-beyond}
-use Rattle.algebra.proofs.Roots.{unit-in}
 use Rattle.algebra.proofs.Recur.{gap, Fits, no-gap}
-use Rattle.algebra.proofs.Poly.{Normal}
+use Rattle.algebra.proofs.Poly.{Normal, unit-normal}
 use Rattle.algebra.proofs.Find.{Least}
 
 -- b times z to the m
@@ -91,8 +90,8 @@ module _ {o : RingOps} (l : Solid o) where
   -- THE START
   pub start : (f : ℕ → ℕ) → Stage o f 0 0 (unit 0) 0 1 (unit 0) 1
   start f = record {
-    found = record { normal = normal; fits = λ j _ h. absurd (omega arith); least = λ k b _ _. omega arith };
-    before = normal;
+    found = record { normal = unit-normal l; fits = λ j _ h. absurd (omega arith); least = λ k b _ _. omega arith };
+    before = unit-normal l;
     within = l .above;
     some = omega arith;
     later = omega arith;
@@ -100,13 +99,6 @@ module _ {o : RingOps} (l : Solid o) where
     fitted = λ j _ h. absurd (omega arith);
     broken = λ h. absurd (omega arith);
   }
-    where
-      none : (j : ℕ) → 0 < j → unit 0 j ≡ 0
-      none zero h = absurd (omega arith)
-      none (suc j) h = refl
-
-      normal : Normal q 0 (unit 0)
-      normal = record { inside = unit-in l 0; constant = refl; beyond = none }
 
   module _ {inv : ℕ → ℕ} (d : Divides o inv) (f : ℕ → ℕ) (i n : ℕ) (c : ℕ → ℕ) (k m : ℕ) (b : ℕ → ℕ) (e : ℕ)
       (at : Stage o f i n c k m b e) where
