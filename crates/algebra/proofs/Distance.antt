@@ -1,8 +1,8 @@
 -- Code rows that differ in few columns are equal.
 use mathlib.Core.Path.{_≡_, refl, sym, ap, ap₂, _∙_}
-use mathlib.Core.Bool.{Bool, true, false, cond, not, _||_}
-use mathlib.Core.List.{List, [], _∷_}
-use Prim.Native.Nat.{ℕ, zero, suc, _+_, _*_, _-_, _≤_, _<_}
+use mathlib.Core.Bool.{Bool, false, not, _||_}
+use mathlib.Core.List.{List, []}
+use Prim.Native.Nat.{ℕ, _+_, _*_, _≤_, _<_}
 use native.Mathlib.Nat.{zero-add}
 use native.Mathlib.Omega.{arith}
 use lib.Dec.{eqb}
@@ -12,10 +12,10 @@ use Rattle.std.proofs.shelf.Tests.{or-parts, not-false, eqb-true}
 use Rattle.fields.specs.Rings.{RingOps, FieldOps, RingLaws, Inverses, Points, power}
 use Rattle.algebra.specs.Rows.{moment, CodeRow, among, differing}
 use Rattle.algebra.proofs.Count.{count, count-or, count-among, differing-count}
-use Rattle.algebra.proofs.Ring.{Solid, Divides, solid, divides}
+use Rattle.algebra.proofs.Ring.{Solid, solid, divides}
 use Rattle.algebra.proofs.Solve.{neg-mul, equal-from-difference, distrib-right}
 use Rattle.algebra.proofs.Sum.{sum-same, sum-add, sum-neg, power-nonzero}
-use Rattle.algebra.proofs.Moments.{vanish}
+use Rattle.algebra.proofs.Moments.{Apart, vanish}
 
 module _ {o : RingOps} (l : Solid o) where
   open RingOps o using (order as q, neg, add as _⊕_, mul as _⊗_)
@@ -34,6 +34,10 @@ module _ {o : RingOps} (l : Solid o) where
       a : ℕ → ℕ
       a k = power o (p k) j
 
+-- the points of columns below n are distinct
+pub columns-apart : (f : FieldOps) → Points (f .ring) (f .point) → (n : ℕ) → n < f .ring .order → Apart (f .ring .order) n (f .point)
+columns-apart f p n h = record { inside = λ k _. p .point-in k; distinct = λ a b ha hb. p .point-apart a b (omega arith) (omega arith) }
+
 module _ (f : FieldOps) (inv : ℕ → ℕ) (laws : RingLaws (f .ring)) (i : Inverses (f .ring) inv) (p : Points (f .ring) (f .point)) where
   l : Solid (f .ring)
   l = solid (f .ring) laws
@@ -44,10 +48,7 @@ module _ (f : FieldOps) (inv : ℕ → ℕ) (laws : RingLaws (f .ring)) (i : Inv
   same-code-rows r xs ys t cx cy e short few off = ext-getD 0 xs ys e (λ k h.
       equal-from-difference l (getD xs k 0) (getD ys k 0) (cx .elements k h) (cy .elements k (omega arith))
       (vanish l (divides (f .ring) inv i) (length xs) r 1 (f .point) (λ k. f .ring .add (getD xs k 0) (f .ring .neg (getD ys k 0))) t (record {
-        points = record {
-          inside = λ k h. p .point-in k;
-          distinct = λ a b ha hb. p .point-apart a b (omega arith) (omega arith);
-        };
+        points = columns-apart f p (length xs) short;
         nonzero = λ k h. power-nonzero l (divides (f .ring) inv i) (f .point k) 1 (p .point-in k) (p .point-nonzero k (omega arith));
         weights = λ k h. laws .add-in _ _;
         few = few;

@@ -1,6 +1,6 @@
 -- How r columns are filled by a table: each gets, for every syndrome, so much of it as the table says.
 use mathlib.Core.Path.{_≡_, refl, sym, ap, ap₂, _∙_, subst}
-use mathlib.Core.Bool.{Bool, true, false, cond}
+use mathlib.Core.Bool.{true, false, cond}
 use mathlib.Core.List.{List}
 use mathlib.Core.Logic.{_⊎_, inl, inr}
 use Prim.Native.Nat.{ℕ, suc, _-_, _≤_, _<_}
@@ -9,7 +9,7 @@ use lib.ListN.{length, getD}
 use Rattle.std.proofs.shelf.Tests.{both-ways, cases-bool, cond-true, cond-false, cond-both}
 use Rattle.fields.specs.Rings.{RingOps, FieldOps, RingLaws, Inverses, Points, taken, sum, power}
 use Rattle.fields.proofs.Guard.{taken-in}
-use Rattle.algebra.specs.Rows.{moment, syndrome, CodeRow, among, rising, FillOf, Filled}
+use Rattle.algebra.specs.Rows.{moment, syndrome, CodeRow, among, rising, Filled}
 use Rattle.algebra.specs.Polynomials.{turned, quotient, gamma, weight, filler}
 use Rattle.algebra.proofs.Count.{count-all, count-among}
 use Rattle.algebra.proofs.Ring.{Solid, Divides, solid, divides}

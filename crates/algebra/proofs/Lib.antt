@@ -13,3 +13,7 @@ pub mod Quotient
 pub mod Filling
 pub mod Inverse
 pub mod Find
+pub mod Forney
+pub mod Decode
+pub mod Correct
+pub mod Massey

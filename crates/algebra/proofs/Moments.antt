@@ -1,11 +1,11 @@
 -- Moments of weights at points: few points and enough moments 0 leave every weight 0, and any moments can be met.
 use mathlib.Core.Path.{_≡_, refl, sym, ap, ap₂, _∙_}
-use mathlib.Core.Bool.{Bool, true, false, cond, true≢false}
+use mathlib.Core.Bool.{Bool, true, false, cond}
 use Prim.Native.Nat.{ℕ, zero, suc, _+_, _-_, _≤_, _<_}
 use native.Mathlib.Omega.{arith}
 use Rattle.fields.specs.Rings.{RingOps, sum, power}
 use Rattle.algebra.specs.Rows.{moment}
-use Rattle.algebra.proofs.Count.{count, count-all}
+use Rattle.algebra.proofs.Count.{count}
 use Rattle.algebra.proofs.Ring.{Solid, Divides}
 use Rattle.algebra.proofs.Solve.{ring, distrib-right, zero-from-mul, mul-zero, zero-mul, zero-add, equal-from-difference, positive}
 use Rattle.algebra.proofs.Sum.{sum-in, power-in, sum-first, sum-same, sum-zero, sum-add, sum-scale}

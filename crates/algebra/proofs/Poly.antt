@@ -10,7 +10,7 @@ use Rattle.algebra.proofs.Count.{count, count-on, count-off}
 use Rattle.algebra.proofs.Ring.{Solid, Divides}
 use Rattle.algebra.proofs.Solve.{ring, signed, mul-zero, zero-mul, nonzero-mul, equal-from-difference, positive}
 use Rattle.algebra.proofs.Sum.{sum-in, sum-first, sum-last, sum-same, sum-add, sum-scale, sum-reverse}
-use Rattle.algebra.proofs.Roots.{unit-in}
+use Rattle.algebra.proofs.Roots.{unit-in, unit-off}
 
 -- a polynomial of degree at most n with constant 1
 pub record Normal (q n : ℕ) (c : ℕ → ℕ) : Type 0 where
@@ -118,14 +118,13 @@ module _ {o : RingOps} (l : Solid o) where
   unfolding product
   product-off n t p e = ap (λ b. cond b (times o (p n) (product o n t p)) (product o n t p)) e
 
+  pub unit-normal : Normal q 0 (unit 0)
+  unit-normal = record { inside = unit-in l 0; constant = refl; beyond = λ j h. unit-off 0 j (λ e. omega arith) }
+
   -- THE PRODUCT has constant 1 and the degree that it has factors
   pub product-normal : (n : ℕ) (t : ℕ → Bool) (p : ℕ → ℕ) → Normal q (count n t) (product o n t p)
   unfolding product count
-  product-normal zero t p = record { inside = unit-in l 0; constant = refl; beyond = beyond }
-    where
-      beyond : (j : ℕ) → 0 < j → unit 0 j ≡ 0
-      beyond zero h = absurd (omega arith)
-      beyond (suc j) h = refl
+  product-normal zero t p = unit-normal
   product-normal (suc n) t p = go (t n) refl (product-normal n t p)
     where
       go : (b : Bool) → t n ≡ b → Normal q (count n t) (product o n t p) → Normal q (count (suc n) t) (product o (suc n) t p)

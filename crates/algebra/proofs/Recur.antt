@@ -1,6 +1,6 @@
 -- Recurrences: two that fit the same values, of lengths that add up to at most i, agree at i; and what a recurrence leaves of moments.
-use mathlib.Core.Path.{_≡_, refl, sym, ap, ap₂, _∙_}
-use Prim.Native.Nat.{ℕ, zero, suc, _+_, _-_, _≤_, _<_}
+use mathlib.Core.Path.{_≡_, sym, ap, ap₂, _∙_}
+use Prim.Native.Nat.{ℕ, suc, _+_, _-_, _≤_, _<_}
 use native.Mathlib.Omega.{arith}
 use Rattle.fields.specs.Rings.{RingOps, sum, power}
 use Rattle.algebra.specs.Rows.{moment}

@@ -1,23 +1,9 @@
 -- The laws of a ring at every number, with no side conditions.
-use mathlib.Core.Path.{_≡_, refl, sym, ap, _∙_}
-use mathlib.Core.Bool.{true, false, cond}
-use Prim.Native.Nat.{ℕ, _≤_, _<_}
+use mathlib.Core.Path.{_≡_, sym, ap, _∙_}
+use Prim.Native.Nat.{ℕ, _<_}
 use native.Mathlib.Omega.{arith}
-use lib.Dec.{ltb}
-use Rattle.std.proofs.shelf.Ways.{tells}
 use Rattle.fields.specs.Rings.{RingOps, RingLaws, Inverses, taken}
-
--- an argument as the operations take it, not to be opened.
-pub clip : ℕ → ℕ → ℕ
-clip q a = taken q a
-
-clip-in : (q a : ℕ) → 0 < q → clip q a < q
-unfolding clip
-clip-in q a h = grind (arith, tells)
-
-clip-same : (q a : ℕ) → a < q → clip q a ≡ a
-unfolding clip
-clip-same q a h = grind (arith, tells)
+use Rattle.fields.proofs.Guard.{taken-in, taken-same}
 
 -- a ring on the numbers below its order, with laws that hold at every number
 pub record Solid (o : RingOps) : Type 0 where
@@ -35,28 +21,29 @@ pub record Solid (o : RingOps) : Type 0 where
   pub mul-one : (a : ℕ) → a < o .order → o .mul a 1 ≡ a
 
 module _ (o : RingOps) (l : RingLaws o) where
+  -- an argument as the operations take it, not to be opened
   c : ℕ → ℕ
-  c a = clip (o .order) a
+  c a = taken (o .order) a
 
   c-in : (a : ℕ) → c a < o .order
   unfolding c
-  c-in a = clip-in (o .order) a (omega (arith, l .low))
+  c-in a = taken-in (o .order) a (omega (arith, l .low))
 
   c-same : (a : ℕ) → a < o .order → c a ≡ a
   unfolding c
-  c-same a h = clip-same (o .order) a h
+  c-same a h = taken-same (o .order) a h
 
-  -- each operation takes its arguments clipped
+  -- each operation takes its arguments so
   neg-c : (a : ℕ) → o .neg (c a) ≡ o .neg a
-  unfolding c clip
+  unfolding c
   neg-c a = sym (l .neg-taken a)
 
   add-c : (a b : ℕ) → o .add (c a) (c b) ≡ o .add a b
-  unfolding c clip
+  unfolding c
   add-c a b = sym (l .add-taken a b)
 
   mul-c : (a b : ℕ) → o .mul (c a) (c b) ≡ o .mul a b
-  unfolding c clip
+  unfolding c
   mul-c a b = sym (l .mul-taken a b)
 
   add-left-c : (a b : ℕ) → b < o .order → o .add (c a) b ≡ o .add a b
@@ -71,7 +58,7 @@ module _ (o : RingOps) (l : RingLaws o) where
   mul-right-c : (a b : ℕ) → a < o .order → o .mul a (c b) ≡ o .mul a b
   mul-right-c a b h = ap (λ t. o .mul t (c b)) (sym (c-same a h)) ∙ mul-c a b
 
-  -- each law is the given one at clipped arguments
+  -- each law is the given one at arguments so taken
   pub solid : Solid o
   solid = record {
     above = omega (arith, l .low);

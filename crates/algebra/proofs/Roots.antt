@@ -1,6 +1,6 @@
 -- A polynomial of degree below n with n distinct roots is 0.
-use mathlib.Core.Path.{_≡_, refl, sym, ap, ap₂, _∙_}
-use Prim.Native.Nat.{ℕ, zero, suc, _+_, _≤_, _<_}
+use mathlib.Core.Path.{_≡_, refl, sym, ap, _∙_}
+use Prim.Native.Nat.{ℕ, zero, suc, _<_}
 use native.Mathlib.Omega.{arith}
 use Rattle.fields.specs.Rings.{RingOps, sum, power}
 use Rattle.algebra.specs.Rows.{moment}

@@ -1,6 +1,6 @@
 -- A ring solver: rules that sort both sides of an equation, for use with a law record: `simp (ring, l)`.
-use mathlib.Core.Path.{_≡_, refl, sym, ap, ap₂, _∙_}
-use Prim.Native.Nat.{ℕ, zero, suc, _≤_, _<_}
+use mathlib.Core.Path.{_≡_, sym, ap, ap₂, _∙_}
+use Prim.Native.Nat.{ℕ, _<_}
 use native.Mathlib.Omega.{arith}
 use Rattle.fields.specs.Rings.{RingOps}
 use Rattle.algebra.proofs.Ring.{Solid, Divides}
@@ -44,12 +44,15 @@ module _ {o : RingOps} (l : Solid o) where
   pub zero-add : (a : ℕ) → a < q → 0 ⊕ a ≡ a
   zero-add a h = l .add-comm 0 a ∙ l .add-zero a h
 
+  pub cancel : (a b : ℕ) → b < q → a ⊕ (neg a ⊕ b) ≡ b
+  cancel a b h = sym (l .add-assoc a (neg a) b) ∙ ap (λ t. t ⊕ b) (l .add-neg a) ∙ zero-add b h
+
+  pub cancel-left : (a b : ℕ) → b < q → neg a ⊕ (a ⊕ b) ≡ b
+  cancel-left a b h = add-left (neg a) a b ∙ cancel a b h
+
   -- equal sums with one summand the same
   pub add-cancel : (a b c : ℕ) → b < q → c < q → a ⊕ b ≡ a ⊕ c → b ≡ c
-  add-cancel a b c hb hc e = sym (drop-it b hb) ∙ ap (λ t. neg a ⊕ t) e ∙ drop-it c hc
-    where
-      drop-it : (d : ℕ) → d < q → neg a ⊕ (a ⊕ d) ≡ d
-      drop-it d h = sym (l .add-assoc (neg a) a d) ∙ ap (λ t. t ⊕ d) (l .add-comm (neg a) a ∙ l .add-neg a) ∙ zero-add d h
+  add-cancel a b c hb hc e = sym (cancel-left a b hb) ∙ ap (λ t. neg a ⊕ t) e ∙ cancel-left a c hc
 
   pub mul-zero : (a : ℕ) → a ⊗ 0 ≡ 0
   mul-zero a = add-cancel (a ⊗ 0) (a ⊗ 0) 0 (l .mul-in a 0) (omega (arith, l .above))
@@ -104,12 +107,6 @@ module _ {o : RingOps} (l : Solid o) where
 
   pub neg-right : (a b : ℕ) → a ⊗ neg b ≡ neg (a ⊗ b)
   neg-right a b = l .mul-comm a (neg b) ∙ sym (neg-mul b a) ∙ ap neg (l .mul-comm b a)
-
-  pub cancel : (a b : ℕ) → b < q → a ⊕ (neg a ⊕ b) ≡ b
-  cancel a b h = sym (l .add-assoc a (neg a) b) ∙ ap (λ t. t ⊕ b) (l .add-neg a) ∙ zero-add l b h
-
-  pub cancel-left : (a b : ℕ) → b < q → neg a ⊕ (a ⊕ b) ≡ b
-  cancel-left a b h = sym (l .add-assoc (neg a) a b) ∙ ap (λ t. t ⊕ b) (l .add-comm (neg a) a ∙ l .add-neg a) ∙ zero-add l b h
 
   pub neg-neg : (a : ℕ) → a < q → neg (neg a) ≡ a
   neg-neg a h = sym (neg-unique l (neg a) a h (l .add-comm (neg a) a ∙ l .add-neg a))

@@ -33,7 +33,7 @@ quotient o a c j = turned o j c a
 abbrev pub gamma : RingOps → ℕ → (ℕ → ℕ) → ℕ → ℕ
 gamma o r p = product o r (λ _. true) p
 
--- one over p(k) times the turned value at p(k) of the product without its factor 1 - p(k) z: one over p(k) times the product of
+-- the inverse of p(k) × the turned value at p(k) of the product without its factor 1 - p(k) z; that value is the product of
 -- p(k) - p(m) over the other m below r
 abbrev pub weight : RingOps → (ℕ → ℕ) → ℕ → (ℕ → ℕ) → ℕ → ℕ
 weight o inv r p k = inv (o .mul (p k) (turned o (r - 1) (quotient o (p k) (gamma o r p)) (p k)))
