@@ -1,5 +1,5 @@
 -- A loop over the places of a list, from the first on.
-use mathlib.Core.Path.{_≡_, refl, _∙_}
+use mathlib.Core.Path.{_≡_, refl, _∙_, subst}
 use mathlib.Core.List.{List}
 use mathlib.Core.Logic.{_≢_}
 use Prim.Native.Nat.{ℕ, zero, suc, _+_, _≤_, _<_, min}
@@ -39,3 +39,7 @@ pub getD-zeros : (n l : ℕ) → _≡_ {A = ℕ} (getD (replicate n 0) l 0) 0
 getD-zeros zero l = refl
 getD-zeros (suc n) zero = refl
 getD-zeros (suc n) (suc l) = getD-zeros n l
+
+-- the loop has come to n
+pub updated-end : {g : ℕ → ℕ} {xs zs : List ℕ} {m n : ℕ} → m ≡ n → Updated m g xs zs → Updated n g xs zs
+updated-end {g} {xs} {zs} e u = subst (λ (k : ℕ). Updated k g xs zs) e u

@@ -1,0 +1,7 @@
+pub mod Rowing
+pub mod Placing
+pub mod Polys
+pub mod Weighing
+pub mod Tables
+pub mod Marching
+pub mod Nested

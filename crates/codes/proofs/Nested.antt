@@ -1,0 +1,66 @@
+-- Horner's rule, and what it comes to.
+use mathlib.Core.Path.{_≡_, refl, sym, ap, ap₂, _∙_}
+use mathlib.Core.Bool.{true}
+use mathlib.Core.List.{List}
+use Prim.Native.Nat.{ℕ, zero, suc, _+_, _-_, _≤_, _<_}
+use native.Mathlib.Numerals.{add-one}
+use native.Mathlib.Omega.{arith}
+use lib.ListN.{length, getD, replicate}
+use Rattle.fields.specs.Rings.{RingOps, sum, power}
+use Rattle.algebra.specs.Polynomials.{times, product, turned}
+use Rattle.basics.specs.Lists.{Updated}
+use Rattle.algebra.proofs.Ring.{Solid}
+use Rattle.algebra.proofs.Solve.{mul-zero, zero-add}
+use Rattle.algebra.proofs.Poly.{turned-more, turned-first}
+use Rattle.codes.specs.Fill.{nested}
+
+module _ {o : RingOps} (l : Solid o) where
+  -- the polynomial with its highest power first, at x
+  pub nested-turned : (x n : ℕ) (c : ℕ → ℕ) → ((j : ℕ) → j ≤ n → c j < o .order) → nested o x c (suc n) ≡ turned o n c x
+  unfolding nested
+  nested-turned x zero c i = ap (λ t. o .add t (c 0)) (mul-zero l x) ∙ zero-add l (c 0) (i 0 (omega arith)) ∙ sym (turned-first l x c (i 0 (omega arith)))
+  nested-turned x (suc n) c i = ap (λ t. o .add (o .mul x t) (c (suc n))) (nested-turned x n c (λ j h. i j (omega arith))) ∙ sym (turned-more l n x c (i (suc n) (omega arith)))
+
+  pub nested-in : (x n : ℕ) (c : ℕ → ℕ) → nested o x c (suc n) < o .order
+  unfolding nested
+  nested-in x n c = l .add-in _ _
+
+pub nested-same : (o : RingOps) (x n : ℕ) (b c : ℕ → ℕ) → ((j : ℕ) → j < n → b j ≡ c j) → nested o x b n ≡ nested o x c n
+unfolding nested
+nested-same o x zero b c e = refl
+nested-same o x (suc n) b c e = ap₂ (λ s t. o .add (o .mul x s) t) (nested-same o x n b c (λ j h. e j (omega arith))) (e n (omega arith))
+
+-- one more factor, coefficient by coefficient
+pub times-first : (o : RingOps) (a : ℕ) (c : List ℕ) (j : ℕ) → j ≡ 0 → getD c 0 0 ≡ times o a (λ j. getD c j 0) j
+unfolding times
+times-first o a c j e = rw e refl
+
+pub times-at : (o : RingOps) (a : ℕ) (c : List ℕ) (j m n : ℕ) → 1 ≤ j → m ≡ o .mul a (getD c (j - 1) 0) → n ≡ o .neg m
+    → o .add (getD c j 0) n ≡ times o a (λ j. getD c j 0) j
+unfolding times
+times-at o a c zero m n h e f = absurd (omega arith)
+times-at o a c (suc j) m n h e f = let i : suc j - 1 ≡ j = omega arith in ap (o .add (getD c (suc j) 0)) (f ∙ ap (o .neg) (e ∙ ap (λ t. o .mul a (getD c t 0)) i))
+
+-- one more step
+pub nested-more : (o : RingOps) (x : ℕ) (c : ℕ → ℕ) (j s : ℕ) → s ≡ nested o x c j → o .add (o .mul x s) (c j) ≡ nested o x c (j + 1)
+unfolding nested
+nested-more o x c j s e = rw (add-one j) (ap (λ t. o .add (o .mul x t) (c j)) e)
+
+-- the product of factors, coefficient by coefficient
+pub product-none : (o : RingOps) (p : ℕ → ℕ) (c : List ℕ) → getD c 0 0 ≡ 1 → ((j : ℕ) → 0 < j → getD c j 0 ≡ 0)
+    → (j : ℕ) → j < 65 → getD c j 0 ≡ product o 0 (λ _. true) p j
+unfolding product
+product-none o p c e f zero h = e
+product-none o p c e f (suc j) h = f (suc j) (omega arith)
+
+product-at : (o : RingOps) (ps : List ℕ) (k : ℕ) (b : List ℕ) → ((j : ℕ) → j < 65 → getD b j 0 ≡ product o k (λ _. true) (λ i. getD ps i 0) j)
+    → (j : ℕ) → j < 65 → times o (getD ps k 0) (λ j. getD b j 0) j ≡ product o (k + 1) (λ _. true) (λ i. getD ps i 0) j
+unfolding times product
+product-at o ps k b e zero h = rw (add-one k) (e 0 h)
+product-at o ps k b e (suc j) h = rw (add-one k) (ap₂ (λ s t. o .add s (o .neg (o .mul (getD ps k 0) t))) (e (suc j) h) (e j (omega arith)))
+
+pub product-more : (o : RingOps) (ps : List ℕ) (k : ℕ) (b c : List ℕ)
+    → ((j : ℕ) → j < 65 → getD b j 0 ≡ product o k (λ _. true) (λ i. getD ps i 0) j)
+    → Updated 65 (times o (getD ps k 0) (λ j. getD b j 0)) (replicate 65 0) c
+    → (j : ℕ) → j < 65 → getD c j 0 ≡ product o (k + 1) (λ _. true) (λ i. getD ps i 0) j
+product-more o ps k b c e u j h = u .new j h (omega arith) ∙ product-at o ps k b e j h

@@ -1,0 +1,348 @@
+// Filling: given rows and as many columns as there are checks, the code rows that agree with them in all other columns.
+ghost use mathlib.Core.Path.{_≡_};
+ghost use mathlib.Core.Bool.{true, cond};
+ghost use mathlib.Core.List.{List};
+ghost use Prim.Native.Nat.{ℕ, suc, _+_, _-_, _*_, _/_, _≤_, _<_};
+ghost use lib.ListN.{length, getD, take, drop, replicate};
+ghost use Rattle.std.specs.Results.{Cases};
+ghost use Rattle.std.specs.Vec.{made};
+ghost use Rattle.basics.specs.Checks.{verdict};
+ghost use Rattle.basics.specs.Lists.{Updated, rowOf};
+ghost use Rattle.fields.specs.Rings.{RingOps, FieldOps, Inverses, Points, taken, power, entry};
+ghost use Rattle.algebra.specs.Rows.{rising, among, Filled};
+ghost use Rattle.algebra.specs.Polynomials.{times, product};
+ghost use Rattle.codes.specs.Fill.{fillFault, Fits, FitsRow, FilledAt, Tabled, powerOf, fillerOf, Placed, Stored, FilledRows, nested};
+use fields::Field;
+use fields::LANES;
+use fields::Lanes;
+use fields::Ring;
+
+// Why rows are not filled.
+#[derive(Clone, Copy, PartialEq, Eq, Debug)]
+pub enum FillFault {
+    // no column, more than 256, or more than the field has points for
+    Width,
+    // more than 64 columns to fill, or not a rising list of columns of the row
+    Columns,
+    // not whole rows
+    Length,
+}
+
+// What filling needs of every row: the powers 1 to r of each column's point, and for each syndrome what it adds to each
+// filled column.
+#[derive(Drop)]
+struct Tables {
+    powers: [Lanes; 256],
+    fillers: [Lanes; 64],
+}
+
+// Whether the columns rise, each below the width.
+fn rises(columns: &[u16], width: usize) -> bool
+    ensures { λ r. ⌜ r ≡ rising 0 width (now (columns .entry)) ⌝ }
+{
+    let mut least = 0;
+    for column in columns {
+        let column = *column as usize;
+        if column < least || column >= width {
+            return false;
+        }
+        least = column + 1;
+    }
+    true
+}
+
+// What stands against filling.
+fn check(order: u16, width: usize, columns: &[u16], size: usize) -> Result<(), FillFault>
+    ensures fault { λ r. ⌜ r ≡ verdict (fillFault order width (now (columns .entry)) size) ⌝ }
+    ensures fits { λ r. ⌜ made r (λ _. Fits order width (now (columns .entry)) size) ⌝ }
+{
+    if width < 1 || width >= order as usize || width > 256 {
+        return Err(FillFault::Width);
+    }
+    if columns.len() > LANES || !rises(columns, width) {
+        return Err(FillFault::Columns);
+    }
+    if size % width != 0 {
+        return Err(FillFault::Length);
+    }
+    Ok(())
+}
+
+// The powers 1 to `count` of a.
+fn powers_of<R: Ring>(ring: &R, a: u16, count: usize) -> Lanes
+    requires { ⌜ count ≤ 64 ⌝ }
+    ensures { λ r. ⌜ Updated count (λ j. power (R·Ring .ops (now (ring .entry))) a (j + 1)) (replicate 64 0) r ⌝ }
+{
+    let mut powers = [0; LANES];
+    let mut last = 1;
+    for j in 0..count {
+        last = ring.mul(a, last);
+        powers[j] = last;
+    }
+    powers
+}
+
+// The powers of the points of the columns below the width.
+fn power_table<F: Field>(field: &F, width: usize, count: usize) -> [Lanes; 256]
+    requires { ⌜ width ≤ 256 ⌝ ∗ ⌜ count ≤ 64 ⌝ }
+    ensures { λ r. ⌜ Tabled width count (powerOf (F·Ring .ops (now (field .entry))) (F·Field .points (now (field .entry)))) r ⌝ }
+{
+    let mut table = [[0; LANES]; 256];
+    for i in 0..width {
+        table[i] = powers_of(field, field.point(i as u16), count);
+    }
+    table
+}
+
+// The points of the given columns.
+fn points_of<F: Field>(field: &F, columns: &[u16]) -> Lanes
+    requires { ⌜ length (now columns) ≤ 64 ⌝ }
+    ensures { λ r. ⌜ Updated (length (now (columns .entry))) (λ k. F·Field .points (now (field .entry)) (getD (now (columns .entry)) k 0)) (replicate 64 0) r ⌝ }
+{
+    let mut points = [0; LANES];
+    for k in 0..columns.len() {
+        points[k] = field.point(columns[k]);
+    }
+    points
+}
+
+// The polynomial 1.
+fn one() -> [u16; 65]
+    ensures constant { λ r. ⌜ getD r 0 0 ≡ 1 ⌝ }
+    ensures rest { λ r. ⌜ ((j : ℕ) → 0 < j → getD r j 0 ≡ 0) ⌝ }
+{
+    let mut r = [0; 65];
+    r[0] = 1;
+    r
+}
+
+// Coefficient j of c × (1 − a z).
+fn times_at<R: Ring>(ring: &R, a: u16, c: &[u16; 65], j: usize) -> u16
+    requires { ⌜ j < 65 ⌝ }
+    ensures { λ r. ⌜ r ≡ times (R·Ring .ops (now (ring .entry))) a (λ i. getD (now (c .entry)) i 0) j ⌝ }
+{
+    if j == 0 {
+        c[0]
+    } else {
+        ring.add(c[j], ring.neg(ring.mul(a, c[j - 1])))
+    }
+}
+
+// c × (1 − a z).
+fn times_factor<R: Ring>(ring: &R, a: u16, c: &[u16; 65]) -> [u16; 65]
+    ensures { λ r. ⌜ Updated 65 (times (R·Ring .ops (now (ring .entry))) a (λ i. getD (now (c .entry)) i 0)) (replicate 65 0) r ⌝ }
+{
+    let mut product = [0; 65];
+    for j in 0..65usize {
+        product[j] = times_at(ring, a, c, j);
+    }
+    product
+}
+
+// The product of 1 − a z over the first `count` points a.
+fn locator<R: Ring>(ring: &R, points: &Lanes, count: usize) -> [u16; 65]
+    requires { ⌜ count ≤ 64 ⌝ }
+    ensures { λ r. ⌜ ((j : ℕ) → j < 65 → getD r j 0 ≡ product (R·Ring .ops (now (ring .entry))) count (λ _. true) (λ k. getD (now (points .entry)) k 0) j) ⌝ }
+{
+    let mut locator = one();
+    for k in 0..count {
+        locator = times_factor(ring, points[k], &locator);
+    }
+    locator
+}
+
+// In each lane, one step of Horner's rule: point × sum + term.
+fn horner_step<R: Ring>(
+    ring: &R,
+    points: &Lanes,
+    sums: &Lanes,
+    terms: &Lanes,
+    count: usize,
+) -> Lanes
+    requires { ⌜ count ≤ 64 ⌝ }
+    ensures { λ r. ⌜ Updated count (λ k. R·Ring .ops (now (ring .entry)) .add (R·Ring .ops (now (ring .entry)) .mul (getD (now (points .entry)) k 0) (getD (now (sums .entry)) k 0)) (getD (now (terms .entry)) k 0)) (replicate 64 0) r ⌝ }
+{
+    let mut next = [0; LANES];
+    for k in 0..count {
+        next[k] = ring.add(ring.mul(points[k], sums[k]), terms[k]);
+    }
+    next
+}
+
+// The coefficients of the locator without the factor of each point, by rising degree; a lane for each point.
+fn quotients<R: Ring>(ring: &R, points: &Lanes, locator: &[u16; 65], count: usize) -> [Lanes; 64]
+    requires { ⌜ count ≤ 64 ⌝ }
+    ensures { λ r. ⌜ Tabled count count (λ j k. nested (R·Ring .ops (now (ring .entry))) (getD (now (points .entry)) k 0) (λ i. getD (now (locator .entry)) i 0) (j + 1)) r ⌝ }
+{
+    let mut table = [[0; LANES]; 64];
+    let mut last = [0; LANES];
+    for j in 0..count {
+        last = horner_step(ring, points, &last, &[locator[j]; LANES], count);
+        table[j] = last;
+    }
+    table
+}
+
+// The value of each lane's polynomial, its highest power first, at the lane's point.
+fn values<R: Ring>(ring: &R, points: &Lanes, table: &[Lanes; 64], count: usize) -> Lanes
+    requires { ⌜ count ≤ 64 ⌝ }
+    ensures { λ r. ⌜ ((k : ℕ) → k < count → getD r k 0 ≡ nested (R·Ring .ops (now (ring .entry))) (getD (now (points .entry)) k 0) (λ j. entry (now (table .entry)) j k) count) ⌝ }
+{
+    let mut sums = [0; LANES];
+    for j in 0..count {
+        sums = horner_step(ring, points, &sums, &table[j], count);
+    }
+    sums
+}
+
+// In each lane, minus one over point × value.
+fn weights<F: Field>(field: &F, points: &Lanes, values: &Lanes, count: usize) -> Lanes
+    requires { ⌜ count ≤ 64 ⌝ }
+    ensures { λ r. ⌜ Updated count (λ k. F·Ring .ops (now (field .entry)) .neg (F·Field .inv (now (field .entry)) (F·Ring .ops (now (field .entry)) .mul (getD (now (points .entry)) k 0) (getD (now (values .entry)) k 0)))) (replicate 64 0) r ⌝ }
+{
+    let mut weights = [0; LANES];
+    for k in 0..count {
+        weights[k] = field.neg(field.inverse(field.mul(points[k], values[k])));
+    }
+    weights
+}
+
+// In each lane, a product.
+fn lane_products<R: Ring>(ring: &R, xs: &Lanes, ys: &Lanes, count: usize) -> Lanes
+    requires { ⌜ count ≤ 64 ⌝ }
+    ensures { λ r. ⌜ Updated count (λ k. R·Ring .ops (now (ring .entry)) .mul (getD (now (xs .entry)) k 0) (getD (now (ys .entry)) k 0)) (replicate 64 0) r ⌝ }
+{
+    let mut products = [0; LANES];
+    for k in 0..count {
+        products[k] = ring.mul(xs[k], ys[k]);
+    }
+    products
+}
+
+// The quotients, highest degree first, times their weights.
+fn weighted<R: Ring>(
+    ring: &R,
+    weights: &Lanes,
+    quotients: &[Lanes; 64],
+    count: usize,
+) -> [Lanes; 64]
+    requires { ⌜ count ≤ 64 ⌝ }
+    ensures { λ r. ⌜ Tabled count count (λ s k. R·Ring .ops (now (ring .entry)) .mul (getD (now (weights .entry)) k 0) (entry (now (quotients .entry)) (count - 1 - s) k)) r ⌝ }
+{
+    let mut table = [[0; LANES]; 64];
+    for s in 0..count {
+        table[s] = lane_products(ring, weights, &quotients[count - 1 - s], count);
+    }
+    table
+}
+
+// For each syndrome, what 1 of it adds to each column that is filled.
+fn fill_table<F: Field>(field: &F, columns: &[u16]) -> [Lanes; 64]
+    requires { ⌜ length (now columns) ≤ 64 ⌝ }
+    ensures { λ r. ⌜ Tabled (length (now (columns .entry))) (length (now (columns .entry))) (fillerOf (F·Ring .ops (now (field .entry))) (F·Field .inv (now (field .entry))) (F·Field .points (now (field .entry))) (now (columns .entry))) r ⌝ }
+{
+    let count = columns.len();
+    let points = points_of(field, columns);
+    let locator = locator(field, &points, count);
+    let quotients = quotients(field, &points, &locator, count);
+    let values = values(field, &points, &quotients, count);
+    let weights = weights(field, &points, &values, count);
+    weighted(field, &weights, &quotients, count)
+}
+
+// a, or 0 where it is the order or above.
+fn reduced(order: u16, a: u16) -> u16
+    ensures { λ r. ⌜ r ≡ taken order a ⌝ }
+{
+    if a < order { a } else { 0 }
+}
+
+// The row of `width` symbols from `start` on.
+fn load(rows: &[u16], start: usize, width: usize, order: u16) -> [u16; 256]
+    requires { ⌜ start + width ≤ length (now rows) ⌝ ∗ ⌜ width ≤ 256 ⌝ }
+    ensures { λ r. ⌜ Updated width (λ i. taken order (getD (now (rows .entry)) (start + i) 0)) (replicate 256 0) r ⌝ }
+{
+    let mut row = [0; 256];
+    for i in 0..width {
+        row[i] = reduced(order, rows[start + i]);
+    }
+    row
+}
+
+// Sets the given columns of a row to the given values.
+fn place(row: &mut [u16; 256], columns: &[u16], values: &Lanes)
+    requires { ⌜ rising 0 256 (now columns) ≡ true ⌝ ∗ ⌜ length (now columns) ≤ 64 ⌝ }
+    ensures { λ _. ⌜ Placed (length (now (columns .entry))) (now (columns .entry)) (now (values .entry)) (now (row .entry)) (now (row .exit)) ⌝ }
+{
+    for k in 0..columns.len() {
+        row[columns[k] as usize] = values[k];
+    }
+}
+
+// Writes the row back.
+fn store(rows: &mut [u16], start: usize, row: &[u16; 256], width: usize)
+    requires { ⌜ start + width ≤ length (now rows) ⌝ ∗ ⌜ width ≤ 256 ⌝ }
+    ensures { λ _. ⌜ Stored start width (now (row .entry)) (now (rows .entry)) (now (rows .exit)) ⌝ }
+{
+    for i in 0..width {
+        rows[start + i] = row[i];
+    }
+}
+
+// Fills the row from `start` on.
+fn fill_row<F: Field>(
+    field: &F,
+    width: usize,
+    columns: &[u16],
+    tables: &Tables,
+    rows: &mut [u16],
+    start: usize,
+)
+    requires inside { ⌜ start + width ≤ length (now rows) ⌝ }
+    requires fits { ⌜ FitsRow (F·Ring .ops (now field) .order) width (now columns) ⌝ }
+    requires powers { ⌜ Tabled width (length (now columns)) (powerOf (F·Ring .ops (now field)) (F·Field .points (now field))) (now tables .powers) ⌝ }
+    requires inverses { ⌜ Inverses (F·Ring .ops (now field)) (F·Field .inv (now field)) ⌝ }
+    requires points { ⌜ Points (F·Ring .ops (now field)) (F·Field .points (now field)) ⌝ }
+    requires fillers { ⌜ Tabled (length (now columns)) (length (now columns)) (fillerOf (F·Ring .ops (now field)) (F·Field .inv (now field)) (F·Field .points (now field)) (now columns)) (now tables .fillers) ⌝ }
+    ensures { λ _. ⌜ FilledAt (record { ring = F·Ring .ops (now (field .entry)); point = F·Field .points (now (field .entry)) }) width (now (columns .entry)) start (now (rows .entry)) (now (rows .exit)) ⌝ }
+{
+    let checks = columns.len();
+    let mut row = load(rows, start, width, field.order());
+    place(&mut row, columns, &[0; LANES]);
+    let syndromes = field.combine(&row[0..width], &tables.powers, checks);
+    let values = field.combine(&syndromes[0..checks], &tables.fillers, checks);
+    place(&mut row, columns, &values);
+    store(rows, start, &row, width);
+}
+
+// The rules of inverses and points, which the field's functions promise of every element.
+fn rules<F: Field>(field: &F)
+    ensures inverses { λ _. ⌜ Inverses (F·Ring .ops (now (field .entry))) (F·Field .inv (now (field .entry))) ⌝ }
+    ensures points { λ _. ⌜ Points (F·Ring .ops (now (field .entry))) (F·Field .points (now (field .entry))) ⌝ }
+{
+    let _ = field.inverse(1);
+    let _ = field.point(0);
+}
+
+// Fills the given columns of every row of `width` symbols: each row becomes the one code row, with as many checks as there
+// are columns, that agrees with it in all other columns. A symbol of the order or above counts as 0.
+pub fn fill_rows<F: Field>(
+    field: &F,
+    width: usize,
+    columns: &[u16],
+    rows: &mut [u16],
+) -> Result<(), FillFault>
+    ensures fault { λ r. ⌜ r ≡ verdict (fillFault (F·Ring .ops (now (field .entry)) .order) width (now (columns .entry)) (length (now (rows .entry)))) ⌝ }
+    ensures filled { λ r. ⌜ Cases r (λ _. FilledRows (record { ring = F·Ring .ops (now (field .entry)); point = F·Field .points (now (field .entry)) }) width (now (columns .entry)) (now (rows .entry)) (now (rows .exit))) (λ _. now (rows .exit) ≡ now (rows .entry)) ⌝ }
+{
+    check(field.order(), width, columns, rows.len())?;
+    rules(field);
+    let tables = Tables {
+        powers: power_table(field, width, columns.len()),
+        fillers: fill_table(field, columns),
+    };
+    for k in 0..rows.len() / width {
+        fill_row(field, width, columns, &tables, rows, k * width);
+    }
+    Ok(())
+}

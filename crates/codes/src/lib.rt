@@ -1,0 +1,3 @@
+// Polynomials over any ring, and code rows over any field.
+pub mod fill;
+pub mod poly;
