@@ -1,0 +1,4 @@
+pub mod Refusals
+pub mod Pages
+pub mod Calls
+pub mod Views
