@@ -17,7 +17,7 @@ abbrev pub Fits : RingOps → ℕ → (ℕ → ℕ) → (ℕ → ℕ) → ℕ �
 Fits o n c f m = (i : ℕ) → n ≤ i → i < m → gap o n c f i ≡ 0
 
 -- c, of elements of the ring, with constant 1 and of degree at most n, fits the first m values of f, and no polynomial of constant
--- 1 fits them with a smaller length. There is always such a length, since where n ≥ m nothing is asked of the values
+-- 1 fits them with a smaller length. With the length m each one fits, since then nothing is asked of the values; so n ≤ m
 pub record Least (o : RingOps) (f : ℕ → ℕ) (m n : ℕ) (c : ℕ → ℕ) : Type 0 where
   pub normal : Normal (o .order) n c
   pub fits : Fits o n c f m
