@@ -8,10 +8,10 @@ use lib.ListN.{length, getD}
 use Rattle.std.proofs.shelf.Lists.{ext-getD}
 use Rattle.fields.specs.Rings.{FieldOps, RingLaws, Inverses, Points}
 use Rattle.algebra.specs.Rows.{CodeRow, among, differing}
+use Rattle.algebra.specs.Recurrences.{Least}
 use Rattle.algebra.proofs.Count.{count, count-among, differing-count}
 use Rattle.algebra.proofs.Ring.{solid, divides}
 use Rattle.algebra.proofs.Distance.{columns-apart}
-use Rattle.algebra.proofs.Find.{Least}
 use Rattle.algebra.proofs.Decode.{Close, remaining, damaged, corrected, decodes}
 
 -- the row ys, where the columns ms are marked: what the solver is given

@@ -5,21 +5,16 @@ use Prim.Native.Nat.{ℕ, suc, _+_, _*_, _-_, _≤_, _<_}
 use native.Mathlib.Omega.{arith}
 use Rattle.fields.specs.Rings.{RingOps, power}
 use Rattle.algebra.specs.Rows.{moment}
-use Rattle.algebra.specs.Polynomials.{product, turned}
+use Rattle.algebra.specs.Polynomials.{Normal, product, turned}
+use Rattle.algebra.specs.Recurrences.{gap, Fits, Least}
 use Rattle.algebra.proofs.Count.{count}
 use Rattle.algebra.proofs.Ring.{Solid, Divides}
 use Rattle.algebra.proofs.Solve.{mul-zero, zero-mul, zero-from-mul, nonzero-mul}
 use Rattle.algebra.proofs.Sum.{sum-in, sum-same, sum-zero}
 use Rattle.algebra.proofs.Moments.{Apart, moment-up, vanish}
-use Rattle.algebra.proofs.Recur.{gap, Fits, gap-moment}
-use Rattle.algebra.proofs.Poly.{Normal, product-normal, product-root, product-nonroot, spread}
+use Rattle.algebra.proofs.Recur.{gap-moment}
+use Rattle.algebra.proofs.Poly.{product-normal, product-root, product-nonroot, spread}
 use Rattle.algebra.proofs.Quotient.{Rooted, root-count, is-product}
-
--- c of length n, constant 1, fits the first m values of f, and nothing shorter does
-pub record Least (o : RingOps) (f : ℕ → ℕ) (m n : ℕ) (c : ℕ → ℕ) : Type 0 where
-  pub normal : Normal (o .order) n c
-  pub fits : Fits o n c f m
-  pub least : (k : ℕ) (b : ℕ → ℕ) → b 0 ≡ 1 → Fits o k b f m → n ≤ k
 
 -- the weights are 0 but where u marks
 abbrev pub Only : ℕ → (ℕ → Bool) → (ℕ → ℕ) → Type 0

@@ -16,4 +16,3 @@ pub mod Find
 pub mod Forney
 pub mod Decode
 pub mod Correct
-pub mod Massey

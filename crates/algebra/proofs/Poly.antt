@@ -5,18 +5,12 @@ use Prim.Native.Nat.{ℕ, zero, suc, _-_, _<_}
 use native.Mathlib.Decide.{decLt}
 use native.Mathlib.Omega.{arith}
 use Rattle.fields.specs.Rings.{RingOps, sum, power}
-use Rattle.algebra.specs.Polynomials.{unit, times, product, turned}
+use Rattle.algebra.specs.Polynomials.{unit, Normal, times, product, turned}
 use Rattle.algebra.proofs.Count.{count, count-on, count-off}
 use Rattle.algebra.proofs.Ring.{Solid, Divides}
 use Rattle.algebra.proofs.Solve.{ring, signed, mul-zero, zero-mul, nonzero-mul, equal-from-difference, positive}
 use Rattle.algebra.proofs.Sum.{sum-in, sum-first, sum-last, sum-same, sum-add, sum-scale, sum-reverse}
 use Rattle.algebra.proofs.Roots.{unit-in, unit-off}
-
--- a polynomial of degree at most n with constant 1
-pub record Normal (q n : ℕ) (c : ℕ → ℕ) : Type 0 where
-  pub inside : (j : ℕ) → c j < q
-  pub constant : c 0 ≡ 1
-  pub beyond : (j : ℕ) → n < j → c j ≡ 0
 
 module _ {o : RingOps} (l : Solid o) where
   open RingOps o using (order as q, neg, add as _⊕_, mul as _⊗_)

@@ -5,13 +5,13 @@ use Prim.Native.Nat.{ℕ, zero, suc, _-_, _≤_, _<_}
 use native.Mathlib.Decide.{le-ind, ℕ-discrete}
 use native.Mathlib.Omega.{arith}
 use Rattle.fields.specs.Rings.{RingOps}
-use Rattle.algebra.specs.Polynomials.{unit, times, product, turned, quotient}
+use Rattle.algebra.specs.Polynomials.{unit, Normal, times, product, turned, quotient}
 use Rattle.algebra.proofs.Count.{count, count-some, count-on, count-off}
 use Rattle.algebra.proofs.Ring.{Solid, Divides}
 use Rattle.algebra.proofs.Solve.{ring, cancel-left, zero-from-mul, equal-from-difference, positive}
 use Rattle.algebra.proofs.Sum.{sum-in}
 use Rattle.algebra.proofs.Moments.{Apart}
-use Rattle.algebra.proofs.Poly.{Normal, product-on, product-off, product-normal, product-root, turned-more, turned-first, turned-same, turned-times}
+use Rattle.algebra.proofs.Poly.{product-on, product-off, product-normal, product-root, turned-more, turned-first, turned-same, turned-times}
 
 -- the first n points stay apart without the last
 pub apart-less : (q n : ℕ) (p : ℕ → ℕ) → Apart q (suc n) p → Apart q n p

@@ -5,17 +5,10 @@ use native.Mathlib.Omega.{arith}
 use Rattle.fields.specs.Rings.{RingOps, sum, power}
 use Rattle.algebra.specs.Rows.{moment}
 use Rattle.algebra.specs.Polynomials.{turned}
+use Rattle.algebra.specs.Recurrences.{gap, Fits}
 use Rattle.algebra.proofs.Ring.{Solid}
 use Rattle.algebra.proofs.Solve.{ring, mul-zero, one-mul}
 use Rattle.algebra.proofs.Sum.{sum-in, sum-first, sum-same, sum-zero, sum-scale, sum-swap, power-add}
-
--- the sum of c j × f (i - j), j from 0 to n
-abbrev pub gap : RingOps → ℕ → (ℕ → ℕ) → (ℕ → ℕ) → ℕ → ℕ
-gap o n c f i = sum o (suc n) (λ j. o .mul (c j) (f (i - j)))
-
--- c of length n fits the values of f below m
-abbrev pub Fits : RingOps → ℕ → (ℕ → ℕ) → (ℕ → ℕ) → ℕ → Type 0
-Fits o n c f m = (i : ℕ) → n ≤ i → i < m → gap o n c f i ≡ 0
 
 module _ {o : RingOps} (l : Solid o) where
   open RingOps o using (order as q, neg, add as _⊕_, mul as _⊗_)

@@ -1,6 +1,7 @@
 -- Polynomials as functions from places to coefficients, products of factors 1 - a z, and the table by which columns are filled.
+use mathlib.Core.Path.{_≡_}
 use mathlib.Core.Bool.{Bool, true, cond}
-use Prim.Native.Nat.{ℕ, zero, suc, _-_}
+use Prim.Native.Nat.{ℕ, zero, suc, _-_, _<_}
 use Rattle.fields.specs.Rings.{RingOps, sum, power}
 
 -- 1 at place k, and 0 elsewhere: unit 0 is the polynomial 1
@@ -9,6 +10,12 @@ unit zero zero = 1
 unit zero (suc j) = 0
 unit (suc k) zero = 0
 unit (suc k) (suc j) = unit k j
+
+-- a polynomial of degree at most n with constant 1, of numbers below q
+pub record Normal (q n : ℕ) (c : ℕ → ℕ) : Type 0 where
+  pub inside : (j : ℕ) → c j < q
+  pub constant : c 0 ≡ 1
+  pub beyond : (j : ℕ) → n < j → c j ≡ 0
 
 -- the polynomial c times 1 - a z
 unfoldable pub times : RingOps → ℕ → (ℕ → ℕ) → ℕ → ℕ

@@ -1,0 +1,3 @@
+pub mod Massey
+pub mod Arrays
+pub mod Steps
