@@ -1,10 +1,11 @@
 -- Lemmas on checks in their order.
-use mathlib.Core.Path.{_≡_, refl, sym, ap, ap₂, _∙_}
+use mathlib.Core.Path.{_≡_, refl, sym, ap, ap₂, _∙_, subst}
 use mathlib.Core.Bool.{Bool, true, false, cond}
 use Prim.Native.Nat.{ℕ, zero, suc, _+_, _-_, _≤_, _<_}
 use native.Mathlib.Omega.{arith}
 use mathlib.Core.Logic.{inl, inr}
 use Rattle.std.proofs.shelf.Tests.{cases-lt}
+use Rattle.std.specs.Vec.{made}
 use Rattle.std.specs.declared.option.Option.{Option}
 use Rattle.std.specs.declared.option.Option.the-variants.{Some, None}
 use Rattle.std.specs.declared.result.Result.{Result}
@@ -37,6 +38,9 @@ module _ {F : Type 0} where
   check-none true f e = cc
   check-none false f e = refl
 
+  pub check-false : (b : Bool) (f : F) → b ≡ false → check b f ≡ None
+  check-false b f e = ap (λ t. check t f) e
+
   -- checks of every place
   pub lowest-none : (at : ℕ → Option F) (m i k : ℕ) → lowest i m at ≡ None → i ≤ k → k < i + m → at k ≡ None
   lowest-none at zero i k e l h = absurd (omega arith)
@@ -66,3 +70,15 @@ module _ {F : Type 0} where
   pub lowest-same : (at on : ℕ → Option F) (m i : ℕ) → ((k : ℕ) → i ≤ k → k < i + m → at k ≡ on k) → lowest i m at ≡ lowest i m on
   lowest-same at on zero i h = refl
   lowest-same at on (suc m) i h = ap₂ (λ a b. a or-else b) (h i (omega arith) (omega arith)) (lowest-same at on m (i + 1) (λ k a b. h k (omega arith) (omega arith)))
+
+  -- the last of several checks decides where the others pass
+  pub others-pass : (a b c : Option F) → a ≡ None → b ≡ None → (a or-else b or-else c) ≡ c
+  others-pass a b c e f = ap₂ (λ x y. x or-else y or-else c) e f
+
+  -- what holds where the checks pass is what a verdict makes
+  pub made-verdict : {r : Result (Unit {0}) F} (o : Option F) (P : Type 0) → r ≡ verdict o → (o ≡ None → P) → made r (λ _. P)
+  made-verdict {r} o P e f = subst (λ v. made v (λ _. P)) (sym e) (at o f)
+    where
+      at : (o : Option F) → (o ≡ None → P) → made (verdict o) (λ _. P)
+      at None f = f refl
+      at (Some _) f = tt

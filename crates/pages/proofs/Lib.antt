@@ -1,0 +1,4 @@
+pub mod Fitting
+pub mod Levels
+pub mod Firsts
+pub mod Writing

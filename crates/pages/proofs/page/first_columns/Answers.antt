@@ -1,0 +1,14 @@
+use mathlib.Core.Path.{refl}
+use Prim.Native.Nat.{_<_}
+use native.Mathlib.Omega.{arith}
+use Rattle.basics.proofs.Updating.{updated-none, updated-more, updated-end}
+use Rattle.pages.proofs.page.first_columns.Needs as need
+
+pub loop-i-holds : need.loop-i-holds
+loop-i-holds c = updated-none _ _
+
+pub loop-i-again : need.loop-i-again
+loop-i-again c = let h : c .loop-i .i < 64 = omega arith in updated-more _ _ (c .loop-i .i) _ _ (c .loop-i .inv) h refl
+
+pub returns : need.returns
+returns c = updated-end (omega arith) (c .loop-i .inv)
