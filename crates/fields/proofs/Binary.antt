@@ -12,25 +12,13 @@ use lib.Pow.{split, pow-pos, pow-lt, shr-lt, shl-lt}
 use Rattle.fields.specs.Rings.{RingLaws}
 use Rattle.fields.specs.Kinds.{timesX, product, binary}
 use Rattle.fields.proofs.Guard.{Laws, guard}
-use Rattle.fields.proofs.Tested.{both}
-
--- each number below n passes the test
-abbrev pub below : ℕ → (ℕ → Bool) → Bool
-below zero f = true
-below (suc n) f = f n && below n f
+use Rattle.fields.proofs.Tested.{both, below, below-at}
 
 -- at the powers of x below degree w: 1 is a unit, and the product is commutative and associative
 abbrev pub basisTest : ℕ → ℕ → Bool
 basisTest w m =
     below w (λ i. eqb (product w m w (2 ^ i) 1) (2 ^ i) && below w (λ j. eqb (product w m w (2 ^ i) (2 ^ j)) (product w m w (2 ^ j) (2 ^ i))
     && below w (λ k. eqb (product w m w (product w m w (2 ^ i) (2 ^ j)) (2 ^ k)) (product w m w (2 ^ i) (product w m w (2 ^ j) (2 ^ k))))))
-
-below-at : (n : ℕ) (f : ℕ → Bool) → T (below n f) → (i : ℕ) → i < n → T (f i)
-below-at zero f t i h = absurd (not-suc-le-zero h)
-below-at (suc n) f t i h = on (below-at n f (both _ _ t .1) i) (leb n i) (leb→le n i) (nleb→lt n i) where
-  on : (i < n → T (f i)) → (b : Bool) → (T b → n ≤ i) → (T (not b) → i < n) → T (f i)
-  on again true e _ = subst (λ (k : ℕ). T (f k)) (le-antisymm (e tt) (le-of-suc-le-suc h)) (both _ _ t .0)
-  on again false _ e = again (e tt)
 
 xor-swap : (a b c d : ℕ) → bitXor (bitXor a b) (bitXor c d) ≡ bitXor (bitXor a c) (bitXor b d)
 xor-swap a b c d =

@@ -5,3 +5,4 @@ pub mod Tested
 pub mod Cycle
 pub mod Binary
 pub mod Seven
+pub mod Small

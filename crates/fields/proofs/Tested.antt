@@ -1,12 +1,12 @@
 -- The tables of powers, logarithms and inverses are right: one test over each table, which the checker computes.
 use mathlib.Core.Path.{_≡_, refl, sym, ap, _∙_, subst}
-use mathlib.Core.Bool.{Bool, true, false, cond, _&&_}
+use mathlib.Core.Bool.{Bool, true, false, cond, not, _&&_}
 use mathlib.Core.List.{List, [], _∷_}
 use Prim.Native.Nat.{ℕ, zero, suc, _+_, _-_, _≤_, _<_}
-use native.Mathlib.Nat.{add-zero, zero-add, add-suc, suc-add, le-of-suc-le-suc, not-suc-le-zero}
+use native.Mathlib.Nat.{add-zero, zero-add, add-suc, suc-add, le-of-suc-le-suc, le-antisymm, not-suc-le-zero}
 use native.Mathlib.Numerals.{add-one, one-add}
 use native.Mathlib.Omega.{arith}
-use lib.Dec.{T, eqb, ltb, eqb→eq, ltb→lt}
+use lib.Dec.{T, eqb, ltb, leb, eqb→eq, ltb→lt, leb→le, nleb→lt}
 use lib.ListN.{length, getD}
 use Rattle.fields.specs.Rings.{RingOps, power}
 use Rattle.fields.specs.Kinds.{Powers, Logarithms, InverseTable}
@@ -14,6 +14,18 @@ use Rattle.fields.specs.Kinds.{Powers, Logarithms, InverseTable}
 pub both : (a b : Bool) → T (a && b) → T a × T b
 both true b t = (tt, t)
 both false b t = absurd t
+
+-- each number below n passes the test
+abbrev pub below : ℕ → (ℕ → Bool) → Bool
+below zero f = true
+below (suc n) f = f n && below n f
+
+pub below-at : (n : ℕ) (f : ℕ → Bool) → T (below n f) → (i : ℕ) → i < n → T (f i)
+below-at zero f t i h = absurd (not-suc-le-zero h)
+below-at (suc n) f t i h = on (below-at n f (both _ _ t .1) i) (leb n i) (leb→le n i) (nleb→lt n i) where
+  on : (i < n → T (f i)) → (b : Bool) → (T b → n ≤ i) → (T (not b) → i < n) → T (f i)
+  on again true e _ = subst (λ (k : ℕ). T (f k)) (le-antisymm (e tt) (le-of-suc-le-suc h)) (both _ _ t .0)
+  on again false _ e = again (e tt)
 
 -- where x is 1, so is the test
 one-is : (x : ℕ) (b : Bool) → T (cond (eqb x 1) b true) → x ≡ 1 → T b
