@@ -456,10 +456,9 @@ class Bench:
     @staticmethod
     def arguments(words, *counts):
         """The numbers after a command, as many as one of the counts."""
-        numbers = numbers_of(words[1:], 2)
-        if len(numbers) not in counts:
+        if len(words) - 1 not in counts:
             raise BadLine(FORMS[words[0]])
-        return numbers
+        return numbers_of(words[1:], 2)
 
     def order(self, words):
         page = Page(*self.arguments(words, 6))
