@@ -1,3 +1,4 @@
 // Polynomials over any ring, and code rows over any field.
 pub mod fill;
 pub mod poly;
+mod rows;

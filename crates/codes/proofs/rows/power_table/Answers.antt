@@ -4,7 +4,7 @@ use native.Mathlib.Omega.{arith}
 use lib.ListN.{length, length-set}
 use Rattle.fields.specs.Rings.{power}
 use Rattle.codes.proofs.Tables.{tabled-none, tabled-more, tabled-end, lanes}
-use Rattle.codes.proofs.fill.power_table.Needs as need
+use Rattle.codes.proofs.rows.power_table.Needs as need
 
 pub loop-i-holds : need.loop-i-holds
 loop-i-holds g c = (refl, tabled-none _ _ _)

@@ -1,7 +1,7 @@
 use Prim.Native.Nat.{_<_}
 use native.Mathlib.Omega.{arith}
 use Rattle.basics.proofs.Updating.{updated-none, updated-more, updated-end}
-use Rattle.codes.proofs.fill.times_factor.Needs as need
+use Rattle.codes.proofs.poly.times_factor.Needs as need
 
 pub loop-j-holds : need.loop-j-holds
 loop-j-holds g c = updated-none _ _

@@ -5,7 +5,7 @@ use lib.ListN.{length, getD}
 use Rattle.algebra.proofs.Columns.{rising-below}
 use Rattle.codes.specs.Fill.{Placed}
 use Rattle.codes.proofs.Placing.{placed-none, placed-more}
-use Rattle.codes.proofs.fill.place.Needs as need
+use Rattle.codes.proofs.rows.place.Needs as need
 
 pub loop-k-holds : need.loop-k-holds
 loop-k-holds c = placed-none _ _ _

@@ -3,7 +3,7 @@ use Prim.Native.Nat.{_+_}
 use lib.ListN.{replicate}
 use Rattle.basics.specs.Lists.{Updated}
 use Rattle.fields.specs.Rings.{power}
-use Rattle.codes.proofs.fill.powers_of.Given as given
+use Rattle.codes.proofs.rows.powers_of.Given as given
 
 abbrev pub Inv-loop-j : given.InvT-loop-j
 Inv-loop-j g l =

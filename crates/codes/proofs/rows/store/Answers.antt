@@ -4,7 +4,7 @@ use native.Mathlib.Omega.{arith}
 use lib.ListN.{length}
 use Rattle.codes.specs.Fill.{Stored}
 use Rattle.codes.proofs.Placing.{stored-none, stored-more}
-use Rattle.codes.proofs.fill.store.Needs as need
+use Rattle.codes.proofs.rows.store.Needs as need
 
 pub loop-i-holds : need.loop-i-holds
 loop-i-holds c = stored-none _ _ _

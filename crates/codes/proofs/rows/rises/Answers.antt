@@ -1,7 +1,7 @@
 use mathlib.Core.Path.{sym, _∙_}
 use mathlib.Core.Logic.{inl, inr}
 use Rattle.codes.proofs.Marching.{rising-stops, rising-goes, rising-ends}
-use Rattle.codes.proofs.fill.rises.Needs as need
+use Rattle.codes.proofs.rows.rises.Needs as need
 
 pub returns-then-column-least : need.returns-then-column-least
 returns-then-column-least c =

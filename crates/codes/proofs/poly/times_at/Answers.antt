@@ -1,7 +1,7 @@
 use mathlib.Core.Path.{_∙_}
 use native.Mathlib.Omega.{arith}
 use Rattle.codes.proofs.Nested.{times-first, times-at}
-use Rattle.codes.proofs.fill.times_at.Needs as need
+use Rattle.codes.proofs.poly.times_at.Needs as need
 
 pub returns-then-j-eq0 : need.returns-then-j-eq0
 returns-then-j-eq0 g c = times-first _ _ (c .args .c .now) (c .args .j) (c .if-j-eq0 .taken)

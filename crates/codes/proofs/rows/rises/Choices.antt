@@ -1,7 +1,7 @@
 use mathlib.Core.Path.{_≡_}
 use lib.ListN.{drop}
 use Rattle.algebra.specs.Rows.{rising}
-use Rattle.codes.proofs.fill.rises.Given as given
+use Rattle.codes.proofs.rows.rises.Given as given
 
 -- the columns that are left decide
 abbrev pub Inv-loop-column : given.InvT-loop-column

@@ -4,7 +4,7 @@ use native.Mathlib.Numerals.{add-one}
 use native.Mathlib.Omega.{arith}
 use Rattle.fields.specs.Rings.{power}
 use Rattle.basics.proofs.Updating.{updated-none, updated-more, updated-end}
-use Rattle.codes.proofs.fill.powers_of.Needs as need
+use Rattle.codes.proofs.rows.powers_of.Needs as need
 
 pub loop-j-holds : need.loop-j-holds
 unfolding power

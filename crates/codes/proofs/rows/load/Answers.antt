@@ -1,7 +1,7 @@
 use Prim.Native.Nat.{_<_}
 use native.Mathlib.Omega.{arith}
 use Rattle.basics.proofs.Updating.{updated-none, updated-more, updated-end}
-use Rattle.codes.proofs.fill.load.Needs as need
+use Rattle.codes.proofs.rows.load.Needs as need
 
 pub loop-i-holds : need.loop-i-holds
 loop-i-holds c = updated-none _ _
