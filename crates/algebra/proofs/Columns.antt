@@ -9,9 +9,9 @@ use lib.Dec.{eqb}
 use lib.ListN.{length, getD}
 use Rattle.std.proofs.shelf.Tests.{cases-bool, and-parts, leb-true, ltb-true, eqb-true, eq-eqb, or-cases, or-left, or-right}
 use Rattle.fields.specs.Rings.{RingOps, sum, power}
-use Rattle.algebra.specs.Rows.{moment, among, rising}
+use Rattle.algebra.specs.Rows.{count, moment, among, rising}
 use Rattle.algebra.specs.Polynomials.{unit}
-use Rattle.algebra.proofs.Count.{count, count-some, count-apart, count-among}
+use Rattle.algebra.proofs.Count.{count-some, count-apart, count-among}
 use Rattle.algebra.proofs.Ring.{Solid}
 use Rattle.algebra.proofs.Solve.{ring, mul-zero}
 use Rattle.algebra.proofs.Sum.{power-in, sum-only, sum-same, sum-zero, sum-scale, sum-swap}

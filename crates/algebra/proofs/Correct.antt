@@ -11,10 +11,10 @@ use lib.ListN.{length, getD}
 use Rattle.std.proofs.shelf.Lists.{ext-getD}
 use Rattle.std.proofs.shelf.Tests.{cases-bool}
 use Rattle.fields.specs.Rings.{RingOps, FieldOps, RingLaws, Inverses, Points}
-use Rattle.algebra.specs.Rows.{CodeRow, among, differing, CloseRow, Corrected}
+use Rattle.algebra.specs.Rows.{count, CodeRow, among, differing, CloseRow, Corrected}
 use Rattle.algebra.specs.Polynomials.{unit}
 use Rattle.algebra.specs.Recurrences.{Least}
-use Rattle.algebra.proofs.Count.{count, count-among, count-same, differing-count}
+use Rattle.algebra.proofs.Count.{count-among, count-same, differing-count}
 use Rattle.algebra.proofs.Ring.{Solid, solid, divides}
 use Rattle.algebra.proofs.Distance.{columns-apart, one-code-row}
 use Rattle.algebra.proofs.Find.{fits-same}

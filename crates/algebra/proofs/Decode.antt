@@ -7,10 +7,10 @@ use native.Mathlib.Omega.{arith}
 use lib.Dec.{eqb}
 use Rattle.std.proofs.shelf.Tests.{or-parts, or-cases, not-true, not-false, eqb-true, eqb-false, eq-eqb, ne-eqb}
 use Rattle.fields.specs.Rings.{RingOps}
-use Rattle.algebra.specs.Rows.{moment}
+use Rattle.algebra.specs.Rows.{count, moment}
 use Rattle.algebra.specs.Polynomials.{product, value, derivative, turned}
 use Rattle.algebra.specs.Recurrences.{gap, Least}
-use Rattle.algebra.proofs.Count.{count, count-or, count-same}
+use Rattle.algebra.proofs.Count.{count-or, count-same}
 use Rattle.algebra.proofs.Ring.{Solid, Divides}
 use Rattle.algebra.proofs.Solve.{signed, neg-zero, equal-from-difference, positive}
 use Rattle.algebra.proofs.Sum.{sum-in, sum-same}

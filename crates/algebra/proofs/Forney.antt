@@ -4,10 +4,10 @@ use mathlib.Core.Bool.{Bool, true, false}
 use Prim.Native.Nat.{ℕ, zero, suc, _-_, _≤_, _<_}
 use native.Mathlib.Omega.{arith}
 use Rattle.fields.specs.Rings.{RingOps, sum, power}
-use Rattle.algebra.specs.Rows.{moment}
+use Rattle.algebra.specs.Rows.{count, moment}
 use Rattle.algebra.specs.Polynomials.{times, product, value, multiple, derivative, quotient}
 use Rattle.algebra.specs.Recurrences.{gap}
-use Rattle.algebra.proofs.Count.{count, count-some}
+use Rattle.algebra.proofs.Count.{count-some}
 use Rattle.algebra.proofs.Ring.{Solid, Divides}
 use Rattle.algebra.proofs.Solve.{ring, signed, mul-zero, zero-mul, zero-add, nonzero-mul, equal-from-difference, positive}
 use Rattle.algebra.proofs.Sum.{sum-in, sum-first, sum-same, sum-add, sum-scale, sum-swap, sum-only, sum-less, sum-beyond}

@@ -2,7 +2,7 @@
 use mathlib.Core.Path.{_≡_}
 use mathlib.Core.Bool.{Bool, true, false, cond, _&&_, _||_}
 use mathlib.Core.List.{List, [], _∷_, map}
-use Prim.Native.Nat.{ℕ, suc, _+_, _*_, _≤_, _<_}
+use Prim.Native.Nat.{ℕ, zero, suc, _+_, _*_, _≤_, _<_}
 use lib.Dec.{eqb, leb, ltb}
 use lib.ListN.{length, getD}
 use Rattle.fields.specs.Rings.{RingOps, FieldOps, taken, sum, power}
@@ -24,6 +24,11 @@ pub record CodeRow (f : FieldOps) (r : ℕ) (cs : List ℕ) : Type 0 where
 abbrev pub among : ℕ → List ℕ → Bool
 among i [] = false
 among i (m ∷ ms) = eqb i m || among i ms
+
+-- how many k below n pass the test t
+unfoldable pub count : ℕ → (ℕ → Bool) → ℕ
+count zero t = 0
+count (suc n) t = cond (t 0) 1 0 + count n (λ k. t (suc k))
 
 -- how many columns, from i on and not among ms, have different entries
 abbrev pub differing : List ℕ → ℕ → List ℕ → List ℕ → ℕ

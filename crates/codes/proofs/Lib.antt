@@ -5,3 +5,4 @@ pub mod Weighing
 pub mod Tables
 pub mod Marching
 pub mod Nested
+pub mod Flagging

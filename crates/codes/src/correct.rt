@@ -1,0 +1,222 @@
+// Correcting: the code row that is close enough to a row, where there is one.
+ghost use mathlib.Core.Path.{_≡_};
+ghost use mathlib.Core.Bool.{true, false, cond, not, _||_};
+ghost use mathlib.Core.List.{List};
+ghost use Prim.Native.Nat.{ℕ, _+_, _-_, _*_, _≤_, _<_};
+ghost use lib.Dec.{eqb};
+ghost use lib.ListN.{length, getD, take, drop, replicate};
+ghost use Rattle.std.specs.Results.{Cases};
+ghost use Rattle.std.specs.Vec.{made};
+ghost use Rattle.basics.specs.Checks.{verdict};
+ghost use Rattle.basics.specs.Lists.{Updated, rowOf};
+ghost use Rattle.fields.specs.Rings.{RingOps, FieldOps, Inverses, Points};
+ghost use Rattle.algebra.specs.Rows.{rising, among, count, CloseRow};
+ghost use Rattle.algebra.specs.Polynomials.{times, product, multiple, derivative};
+ghost use Rattle.algebra.specs.Recurrences.{at, Shortest};
+ghost use Rattle.codes.specs.Poly.{productAt, valueAt};
+ghost use Rattle.codes.specs.Correct.{correctFault, FitsChecks, Flagged, Tells, Ready};
+use crate::poly::evaluate;
+use crate::poly::one;
+use crate::poly::product_at;
+use crate::poly::times_factor;
+use crate::rows::rises;
+use fields::Field;
+use fields::LANES;
+use fields::Lanes;
+use fields::Ring;
+use solver::shortest_recurrence;
+
+// Why rows are not corrected.
+#[derive(Clone, Copy, PartialEq, Eq, Debug)]
+pub enum CorrectFault {
+    // no column, more than 256, or more than the field has points for
+    Width,
+    // more than 64 checks
+    Checks,
+    // more marked columns than checks, or not a rising list of columns of the row
+    Marking,
+    // not whole rows
+    Length,
+    // no code row is close enough to this row
+    Lost(usize),
+}
+
+// What correcting needs of every row: how many columns and checks there are, and how many columns are marked; the powers 1 and
+// up of each column's point, and its inverse; the marked columns, and the product of 1 − a z over their points a.
+#[derive(Drop)]
+struct Tables {
+    width: usize,
+    checks: usize,
+    marked: usize,
+    powers: [Lanes; 256],
+    inverses: [u16; 256],
+    marks: [bool; 256],
+    locator: [u16; 65],
+}
+
+// A recurrence: its coefficients, the constant 1 first, and its length.
+#[derive(Drop)]
+struct Recurrence {
+    c: [u16; 65],
+    l: usize,
+}
+
+// The damaged columns, and what Forney's formula divides: the value of the one polynomial by that of the other.
+#[derive(Drop)]
+struct Damage {
+    columns: [bool; 256],
+    above: Lanes,
+    below: Lanes,
+}
+
+// What stands against correcting.
+fn check(
+    order: u16,
+    width: usize,
+    checks: usize,
+    marked: &[u16],
+    size: usize,
+) -> Result<(), CorrectFault>
+    ensures fault { λ r. ⌜ r ≡ verdict (correctFault order width checks (now (marked .entry)) size) ⌝ }
+    ensures fits { λ r. ⌜ made r (λ _. FitsChecks order width checks (now (marked .entry))) ⌝ }
+{
+    if width < 1 || width >= order as usize || width > 256 {
+        return Err(CorrectFault::Width);
+    }
+    if checks > LANES {
+        return Err(CorrectFault::Checks);
+    }
+    if marked.len() > checks || !rises(marked, width) {
+        return Err(CorrectFault::Marking);
+    }
+    if size % width != 0 {
+        return Err(CorrectFault::Length);
+    }
+    Ok(())
+}
+
+// The inverses of the points of the columns below the width.
+fn inverse_points<F: Field>(field: &F, width: usize) -> [u16; 256]
+    requires { ⌜ width ≤ 256 ⌝ }
+    ensures { λ r. ⌜ Updated width (λ i. F·Field .inv (now (field .entry)) (F·Field .points (now (field .entry)) i)) (replicate 256 0) r ⌝ }
+{
+    let mut inverses = [0; 256];
+    for i in 0..width {
+        inverses[i] = field.inverse(field.point(i as u16));
+    }
+    inverses
+}
+
+// Whether the column is one of the marked ones.
+fn is_marked(marked: &[u16], column: usize) -> bool
+    ensures { λ r. ⌜ r ≡ among column (now (marked .entry)) ⌝ }
+{
+    for m in marked {
+        if *m as usize == column {
+            return true;
+        }
+    }
+    false
+}
+
+// The marked columns, as flags.
+fn flags(marked: &[u16]) -> [bool; 256]
+    ensures { λ r. ⌜ Flagged 256 (λ k. among k (now (marked .entry))) r ⌝ }
+{
+    let mut flags = [false; 256];
+    for k in 0..256usize {
+        flags[k] = is_marked(marked, k);
+    }
+    flags
+}
+
+// The polynomial c, times 1 − a z where the column with the point a is flagged.
+fn factored<F: Field>(field: &F, column: usize, flag: bool, c: &[u16; 65]) -> [u16; 65]
+    requires { ⌜ column < 256 ⌝ }
+    ensures { λ r. ⌜ ((j : ℕ) → j < 65 → getD r j 0 ≡ cond flag (times (F·Ring .ops (now (field .entry))) (F·Field .points (now (field .entry)) column) (at (now (c .entry)))) (at (now (c .entry))) j) ⌝ }
+{
+    if flag {
+        times_factor(field, field.point(column as u16), c)
+    } else {
+        *c
+    }
+}
+
+// The product of 1 − a z over the points a of the flagged columns.
+fn locator<F: Field>(field: &F, columns: &[bool; 256], width: usize) -> [u16; 65]
+    requires { ⌜ width ≤ 256 ⌝ }
+    ensures { λ r. ⌜ ((j : ℕ) → j < 65 → getD r j 0 ≡ product (F·Ring .ops (now (field .entry))) width (λ k. getD (now (columns .entry)) k false) (F·Field .points (now (field .entry))) j) ⌝ }
+{
+    let mut locator = one();
+    for k in 0..width {
+        locator = factored(field, k, columns[k], &locator);
+    }
+    locator
+}
+
+// The polynomial c times the one whose coefficients are the syndromes, without the powers from `checks` on.
+fn times_syndromes<R: Ring>(ring: &R, c: &[u16; 65], syndromes: &Lanes, checks: usize) -> Lanes
+    requires { ⌜ checks ≤ 64 ⌝ }
+    ensures { λ r. ⌜ Updated checks (productAt (R·Ring .ops (now (ring .entry))) (now (c .entry)) (now (syndromes .entry))) (replicate 64 0) r ⌝ }
+{
+    let mut product = [0; LANES];
+    for m in 0..checks {
+        product[m] = product_at(ring, c, syndromes, m);
+    }
+    product
+}
+
+// a added to 0 as often as `count` says.
+fn multiple_of<R: Ring>(ring: &R, count: usize, a: u16) -> u16
+    ensures { λ r. ⌜ r ≡ multiple (R·Ring .ops (now (ring .entry))) count a ⌝ }
+{
+    let mut total = 0;
+    for j in 0..count {
+        total = ring.add(a, total);
+    }
+    total
+}
+
+// The derivative of the polynomial c, without the powers from `checks` on.
+fn derivative_of<R: Ring>(ring: &R, c: &[u16; 65], checks: usize) -> Lanes
+    requires { ⌜ checks ≤ 64 ⌝ }
+    ensures { λ r. ⌜ Updated checks (derivative (R·Ring .ops (now (ring .entry))) (at (now (c .entry)))) (replicate 64 0) r ⌝ }
+{
+    let mut derivative = [0; LANES];
+    for j in 0..checks {
+        derivative[j] = multiple_of(ring, j + 1, c[j + 1]);
+    }
+    derivative
+}
+
+// A shortest recurrence of the values.
+fn shortest<F: Field>(field: &F, values: &[u16]) -> Recurrence
+    requires { ⌜ length (now values) ≤ 64 ⌝ }
+    ensures { λ r. ⌜ Shortest (F·Ring .ops (now (field .entry))) (now (values .entry)) (r .l) (r .c) ⌝ }
+{
+    let mut c = [0; 65];
+    let Some(l) = shortest_recurrence(field, values, &mut c) else {
+        return Recurrence { c, l: 0 };
+    };
+    Recurrence { c, l }
+}
+
+// Whether a column is damaged: it is marked, or the recurrence is 0 at the inverse of its point.
+fn is_damaged<R: Ring>(ring: &R, marked: bool, found: &Recurrence, inverse: u16) -> bool
+    requires { ⌜ now found .l ≤ 64 ⌝ }
+    ensures { λ r. ⌜ r ≡ (marked || eqb (valueAt (R·Ring .ops (now (ring .entry))) (take (now (found .entry) .l + 1) (now (found .entry) .c)) inverse) 0) ⌝ }
+{
+    marked || evaluate(ring, &found.c[0..found.l + 1], inverse) == 0
+}
+
+// The damaged columns.
+fn damaged<R: Ring>(ring: &R, tables: &Tables, found: &Recurrence) -> [bool; 256]
+    requires { ⌜ now tables .width ≤ 256 ⌝ ∗ ⌜ now found .l ≤ 64 ⌝ }
+    ensures { λ r. ⌜ Flagged (now (tables .entry) .width) (λ k. getD (now (tables .entry) .marks) k false || eqb (valueAt (R·Ring .ops (now (ring .entry))) (take (now (found .entry) .l + 1) (now (found .entry) .c)) (getD (now (tables .entry) .inverses) k 0)) 0) r ⌝ }
+{
+    let mut columns = [false; 256];
+    for k in 0..tables.width {
+        columns[k] = is_damaged(ring, tables.marks[k], found, tables.inverses[k]);
+    }
+    columns
+}
