@@ -1,6 +1,6 @@
 -- Which rows can be corrected, and what correcting leaves.
 use mathlib.Core.Path.{_≡_}
-use mathlib.Core.Bool.{Bool, true, false, not, _||_}
+use mathlib.Core.Bool.{Bool, true, false, cond, not, _||_}
 use mathlib.Core.List.{List}
 use Prim.Native.Nat.{ℕ, _+_, _-_, _*_, _%_, _≤_, _<_, min}
 use lib.Dec.{ltb, eqb}
@@ -13,9 +13,11 @@ use Rattle.fields.specs.Rings.{RingOps, FieldOps, Inverses, Points}
 use Rattle.algebra.specs.Rows.{rising, among, takenRow, CloseRow, Corrected}
 use Rattle.algebra.specs.Polynomials.{product}
 use Rattle.codes.specs.Fill.{Tabled, powerOf}
+use Rattle.codes.specs.Poly.{valueAt}
 use Rattle.codes.specs.declared.correct.CorrectFault.{CorrectFault}
 use Rattle.codes.specs.declared.correct.CorrectFault.the-variants.{Width, Checks, Marking, Length, Lost}
 use Rattle.codes.specs.declared.correct.Tables.{Tables}
+use Rattle.codes.specs.declared.correct.Damage.{Damage}
 
 -- what correcting rows of n symbols with r checks and the marked columns ms is refused for, over a field of Q elements, with size
 -- symbols in all: n is 1 to the smaller of Q - 1 and 256; r is at most 64; there are at most r columns ms, rising and below n; the
@@ -68,6 +70,12 @@ pub record FitsChecks (q n r : ℕ) (ms : List ℕ) : Type 0 where
 -- the flags bs below n are t
 pub record Flagged (n : ℕ) (t : ℕ → Bool) (bs : List Bool) : Type 0 where
   pub is : (k : ℕ) → k < n → getD bs k false ≡ t k
+
+-- the symbol s of column k, where x is the inverse of its point: in a damaged column Forney's value is subtracted, minus the value of
+-- the first r coefficients of the one polynomial divided by that of the other
+abbrev pub repairedAt : RingOps → (ℕ → ℕ) → Damage → ℕ → ℕ → ℕ → ℕ → ℕ
+repairedAt o inv d r k x s =
+    cond (getD (d .columns) k false) (o .add s (o .neg (o .neg (o .mul (valueAt o (take r (d .above)) x) (inv (valueAt o (take r (d .below)) x)))))) s
 
 -- the answer b says whether P holds
 pub record Tells (b : Bool) (P : Type 0) : Type 0 where

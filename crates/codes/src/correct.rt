@@ -14,7 +14,7 @@ ghost use Rattle.algebra.specs.Rows.{rising, among, count, CloseRow};
 ghost use Rattle.algebra.specs.Polynomials.{times, product, multiple, derivative};
 ghost use Rattle.algebra.specs.Recurrences.{at, Shortest};
 ghost use Rattle.codes.specs.Poly.{productAt, valueAt};
-ghost use Rattle.codes.specs.Correct.{correctFault, FitsChecks, Flagged, Tells, Ready};
+ghost use Rattle.codes.specs.Correct.{correctFault, FitsChecks, Flagged, repairedAt, Tells, Ready};
 use crate::poly::evaluate;
 use crate::poly::one;
 use crate::poly::product_at;
@@ -219,4 +219,75 @@ fn damaged<R: Ring>(ring: &R, tables: &Tables, found: &Recurrence) -> [bool; 256
         columns[k] = is_damaged(ring, tables.marks[k], found, tables.inverses[k]);
     }
     columns
+}
+
+// The symbol of a column: where it is damaged, Forney's value at the inverse of its point is subtracted from it.
+fn repaired_symbol<F: Field>(
+    field: &F,
+    damage: &Damage,
+    checks: usize,
+    column: usize,
+    inverse: u16,
+    symbol: u16,
+) -> u16
+    requires { ⌜ checks ≤ 64 ⌝ ∗ ⌜ column < 256 ⌝ }
+    ensures { λ r. ⌜ r ≡ repairedAt (F·Ring .ops (now (field .entry))) (F·Field .inv (now (field .entry))) (now (damage .entry)) checks column inverse symbol ⌝ }
+{
+    if !damage.columns[column] {
+        return symbol;
+    }
+    let above = evaluate(field, &damage.above[0..checks], inverse);
+    let below = evaluate(field, &damage.below[0..checks], inverse);
+    let value = field.neg(field.mul(above, field.inverse(below)));
+    field.add(symbol, field.neg(value))
+}
+
+// The row with its damaged columns repaired.
+fn repaired<F: Field>(
+    field: &F,
+    tables: &Tables,
+    damage: &Damage,
+    row: &[u16; 256],
+) -> [u16; 256]
+    requires { ⌜ now tables .width ≤ 256 ⌝ ∗ ⌜ now tables .checks ≤ 64 ⌝ }
+    ensures { λ r. ⌜ Updated (now (tables .entry) .width) (λ k. repairedAt (F·Ring .ops (now (field .entry))) (F·Field .inv (now (field .entry))) (now (damage .entry)) (now (tables .entry) .checks) k (getD (now (tables .entry) .inverses) k 0) (getD (now (row .entry)) k 0)) (replicate 256 0) r ⌝ }
+{
+    let mut repaired = [0; 256];
+    for k in 0..tables.width {
+        repaired[k] =
+            repaired_symbol(field, damage, tables.checks, k, tables.inverses[k], row[k]);
+    }
+    repaired
+}
+
+// Whether the first `count` values are all 0.
+fn all_zero(values: &Lanes, count: usize) -> bool
+    requires { ⌜ count ≤ 64 ⌝ }
+    ensures { λ r. ⌜ Tells r ((j : ℕ) → j < count → getD (now (values .entry)) j 0 ≡ 0) ⌝ }
+{
+    for j in 0..count {
+        if values[j] != 0 {
+            return false;
+        }
+    }
+    true
+}
+
+// 1 where the symbols of a column differ and it is not marked, else 0.
+fn differs(marked: bool, a: u16, b: u16) -> usize
+    ensures { λ r. ⌜ r ≡ cond (not (marked || eqb a b)) 1 0 ⌝ }
+{
+    if marked || a == b { 0 } else { 1 }
+}
+
+// How many columns that are not marked differ.
+fn distance(tables: &Tables, a: &[u16; 256], b: &[u16; 256]) -> usize
+    requires { ⌜ now tables .width ≤ 256 ⌝ }
+    ensures { λ r. ⌜ r ≡ count (now (tables .entry) .width) (λ k. not (getD (now (tables .entry) .marks) k false || eqb (getD (now (a .entry)) k 0) (getD (now (b .entry)) k 0))) ⌝ }
+{
+    let mut total: usize = 0;
+    for k in 0..tables.width {
+        total += differs(tables.marks[k], a[k], b[k]);
+    }
+    total
 }
