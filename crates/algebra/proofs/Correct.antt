@@ -1,5 +1,5 @@
 -- The decoder on rows that are lists: the steps give the code row that is close enough.
-use mathlib.Core.Path.{_≡_, refl, sym, ap, _∙_}
+use mathlib.Core.Path.{_≡_, refl, sym, ap, _∙_, subst}
 use mathlib.Core.Bool.{Bool, true, false, not, _||_}
 use mathlib.Core.List.{List}
 use mathlib.Core.Logic.{inl, inr}
@@ -13,7 +13,7 @@ use Rattle.std.proofs.shelf.Tests.{cases-bool}
 use Rattle.fields.specs.Rings.{RingOps, FieldOps, RingLaws, Inverses, Points}
 use Rattle.algebra.specs.Rows.{count, CodeRow, among, differing, CloseRow, Corrected}
 use Rattle.algebra.specs.Polynomials.{unit}
-use Rattle.algebra.specs.Recurrences.{Least}
+use Rattle.algebra.specs.Recurrences.{Least, at}
 use Rattle.algebra.proofs.Count.{count-among, count-same, differing-count}
 use Rattle.algebra.proofs.Ring.{Solid, solid, divides}
 use Rattle.algebra.proofs.Distance.{columns-apart, one-code-row}
@@ -80,10 +80,16 @@ module _ (f : FieldOps) (inv : ℕ → ℕ) (laws : RingLaws (f .ring)) (i : Inv
       ∙ decodes (solid (f .ring) laws) (divides (f .ring) inv i) (length ys) r (f .point) (λ k. among k ms) (λ k. getD xs k 0) (λ k. getD ys k 0)
       (close r ms xs ys cx e short inside few) s c found k (omega arith))
 
-  pub close-result : (r : ℕ) (ms cs ys zs : List ℕ) → length ys < f .ring .order → ((k : ℕ) → k < length ys → getD ys k 0 < f .ring .order) → (s : ℕ) (c : ℕ → ℕ)
-      → Least (f .ring) (values f ms ys) (r - count (length ys) (λ k. among k ms)) s c
-      → length zs ≡ length ys → ((k : ℕ) → k < length ys → getD zs k 0 ≡ result f inv ms ys r s c k) → CloseRow f r ms ys cs → zs ≡ cs
-  close-result r ms cs ys zs short inside s c found ez z near = correct r ms cs ys zs (near .code) (near .long) short inside (near .few) s c found ez z
+  -- the same for n columns that rise, of which ms are marked
+  pub close-corrected : (n r : ℕ) (ms cs ys zs : List ℕ) → length ys ≡ n → n < f .ring .order → ((k : ℕ) → k < n → getD ys k 0 < f .ring .order) → (s : ℕ) (c : ℕ → ℕ)
+      → Least (f .ring) (remaining (f .ring) n (f .point) (at ys) (λ k. among k ms)) (r - count n (λ k. among k ms)) s c
+      → length zs ≡ n → ((k : ℕ) → k < n → getD zs k 0 ≡ corrected (f .ring) inv n (f .point) (at ys) r (damaged (f .ring) inv (f .point) (λ k. among k ms) s c) k)
+      → CloseRow f r ms ys cs → zs ≡ cs
+  close-corrected n r ms cs ys zs e = subst (λ (n : ℕ). n < f .ring .order → ((k : ℕ) → k < n → getD ys k 0 < f .ring .order) → (s : ℕ) (c : ℕ → ℕ)
+      → Least (f .ring) (remaining (f .ring) n (f .point) (at ys) (λ k. among k ms)) (r - count n (λ k. among k ms)) s c
+      → length zs ≡ n → ((k : ℕ) → k < n → getD zs k 0 ≡ corrected (f .ring) inv n (f .point) (at ys) r (damaged (f .ring) inv (f .point) (λ k. among k ms) s c) k)
+      → CloseRow f r ms ys cs → zs ≡ cs) e
+      (λ short inside s c found ez z near. correct r ms cs ys zs (near .code) (near .long) short inside (near .few) s c found ez z)
 
   -- a code row that is close enough is the only one
   pub only-close : (r : ℕ) (ms ss cs : List ℕ) → length ss < f .ring .order → CloseRow f r ms ss cs → Corrected f r ms ss cs

@@ -6,3 +6,4 @@ pub mod Tables
 pub mod Marching
 pub mod Nested
 pub mod Flagging
+pub mod Repairing

@@ -10,8 +10,9 @@ use Rattle.std.specs.declared.option.Option.the-variants.{Some, None}
 use Rattle.basics.specs.Checks.{check, _or-else_}
 use Rattle.basics.specs.Lists.{rowOf}
 use Rattle.fields.specs.Rings.{RingOps, FieldOps, Inverses, Points}
-use Rattle.algebra.specs.Rows.{rising, among, takenRow, CloseRow, Corrected}
+use Rattle.algebra.specs.Rows.{moment, rising, among, takenRow, CloseRow, Corrected}
 use Rattle.algebra.specs.Polynomials.{product}
+use Rattle.algebra.specs.Recurrences.{at}
 use Rattle.codes.specs.Fill.{Tabled, powerOf}
 use Rattle.codes.specs.Poly.{valueAt}
 use Rattle.codes.specs.declared.correct.CorrectFault.{CorrectFault}
@@ -87,8 +88,11 @@ pub record Ready (f : FieldOps) (inv : ℕ → ℕ) (ms : List ℕ) (t : Tables)
   pub fits : FitsChecks (f .ring .order) (t .width) (t .checks) ms
   pub inverses : Inverses (f .ring) inv
   pub points : Points (f .ring) (f .point)
-  pub marked-are : t .marked ≡ length ms
   pub powers-are : Tabled (t .width) (t .checks) (powerOf (f .ring) (f .point)) (t .powers)
   pub inverses-are : (k : ℕ) → k < t .width → getD (t .inverses) k 0 ≡ inv (f .point k)
   pub marks-are : Flagged (t .width) (λ k. among k ms) (t .marks)
   pub locator-is : (j : ℕ) → j < 65 → getD (t .locator) j 0 ≡ product (f .ring) (t .width) (λ k. among k ms) (f .point) j
+
+-- ss are the syndromes 1 to r of the first n symbols of the row
+pub record Syndromes (f : FieldOps) (n r : ℕ) (row ss : List ℕ) : Type 0 where
+  pub is : (j : ℕ) → j < r → getD ss j 0 ≡ moment (f .ring) n (f .point) (at (take n row)) (j + 1)

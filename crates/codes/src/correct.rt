@@ -14,7 +14,8 @@ ghost use Rattle.algebra.specs.Rows.{rising, among, count, CloseRow};
 ghost use Rattle.algebra.specs.Polynomials.{times, product, multiple, derivative};
 ghost use Rattle.algebra.specs.Recurrences.{at, Shortest};
 ghost use Rattle.codes.specs.Poly.{productAt, valueAt};
-ghost use Rattle.codes.specs.Correct.{correctFault, FitsChecks, Flagged, repairedAt, Tells, Ready};
+ghost use Rattle.codes.specs.Fill.{Tabled, powerOf};
+ghost use Rattle.codes.specs.Correct.{correctFault, FitsChecks, Flagged, repairedAt, Tells, Ready, Syndromes};
 use crate::poly::evaluate;
 use crate::poly::one;
 use crate::poly::product_at;
@@ -41,13 +42,12 @@ pub enum CorrectFault {
     Lost(usize),
 }
 
-// What correcting needs of every row: how many columns and checks there are, and how many columns are marked; the powers 1 and
-// up of each column's point, and its inverse; the marked columns, and the product of 1 − a z over their points a.
+// What correcting needs of every row: how many columns and checks there are, the powers 1 and up of each column's point, its
+// inverse, the marked columns, and the product of 1 − a z over their points a.
 #[derive(Drop)]
 struct Tables {
     width: usize,
     checks: usize,
-    marked: usize,
     powers: [Lanes; 256],
     inverses: [u16; 256],
     marks: [bool; 256],
@@ -192,7 +192,9 @@ fn derivative_of<R: Ring>(ring: &R, c: &[u16; 65], checks: usize) -> Lanes
 // A shortest recurrence of the values.
 fn shortest<F: Field>(field: &F, values: &[u16]) -> Recurrence
     requires { ⌜ length (now values) ≤ 64 ⌝ }
-    ensures { λ r. ⌜ Shortest (F·Ring .ops (now (field .entry))) (now (values .entry)) (r .l) (r .c) ⌝ }
+    ensures long { λ r. ⌜ length (r .c) ≡ 65 ⌝ }
+    ensures short { λ r. ⌜ r .l ≤ 64 ⌝ }
+    ensures shortest { λ r. ⌜ Shortest (F·Ring .ops (now (field .entry))) (now (values .entry)) (r .l) (r .c) ⌝ }
 {
     let mut c = [0; 65];
     let Some(l) = shortest_recurrence(field, values, &mut c) else {
@@ -243,19 +245,13 @@ fn repaired_symbol<F: Field>(
 }
 
 // The row with its damaged columns repaired.
-fn repaired<F: Field>(
-    field: &F,
-    tables: &Tables,
-    damage: &Damage,
-    row: &[u16; 256],
-) -> [u16; 256]
+fn repaired<F: Field>(field: &F, tables: &Tables, damage: &Damage, row: &[u16; 256]) -> [u16; 256]
     requires { ⌜ now tables .width ≤ 256 ⌝ ∗ ⌜ now tables .checks ≤ 64 ⌝ }
     ensures { λ r. ⌜ Updated (now (tables .entry) .width) (λ k. repairedAt (F·Ring .ops (now (field .entry))) (F·Field .inv (now (field .entry))) (now (damage .entry)) (now (tables .entry) .checks) k (getD (now (tables .entry) .inverses) k 0) (getD (now (row .entry)) k 0)) (replicate 256 0) r ⌝ }
 {
     let mut repaired = [0; 256];
     for k in 0..tables.width {
-        repaired[k] =
-            repaired_symbol(field, damage, tables.checks, k, tables.inverses[k], row[k]);
+        repaired[k] = repaired_symbol(field, damage, tables.checks, k, tables.inverses[k], row[k]);
     }
     repaired
 }
@@ -290,4 +286,41 @@ fn distance(tables: &Tables, a: &[u16; 256], b: &[u16; 256]) -> usize
         total += differs(tables.marks[k], a[k], b[k]);
     }
     total
+}
+
+// The syndromes 1 and up of a row.
+fn syndromes_of<F: Field>(field: &F, tables: &Tables, row: &[u16; 256]) -> Lanes
+    requires width { ⌜ now tables .width ≤ 256 ⌝ }
+    requires checks { ⌜ now tables .checks ≤ 64 ⌝ }
+    requires powers { ⌜ Tabled (now tables .width) (now tables .checks) (powerOf (F·Ring .ops (now field)) (F·Field .points (now field))) (now tables .powers) ⌝ }
+    ensures { λ r. ⌜ Syndromes (record { ring = F·Ring .ops (now (field .entry)); point = F·Field .points (now (field .entry)) }) (now (tables .entry) .width) (now (tables .entry) .checks) (now (row .entry)) r ⌝ }
+{
+    field.combine(&row[0..tables.width], &tables.powers, tables.checks)
+}
+
+// The row that is close enough, if there is one: a shortest recurrence of the syndromes, without what the marked columns add to
+// them, is 0 at the inverses of the points of the other columns that are damaged, and Forney's values repair them.
+fn candidate<F: Field>(
+    field: &F,
+    marked: &[u16],
+    tables: &Tables,
+    row: &[u16; 256],
+    syndromes: &Lanes,
+) -> [u16; 256]
+    requires ready { ⌜ Ready (record { ring = F·Ring .ops (now field); point = F·Field .points (now field) }) (F·Field .inv (now field)) (now marked) (now tables) ⌝ }
+    requires elements { ⌜ ((k : ℕ) → k < now tables .width → getD (now row) k 0 < F·Ring .ops (now field) .order) ⌝ }
+    requires syndromes { ⌜ Syndromes (record { ring = F·Ring .ops (now field); point = F·Field .points (now field) }) (now tables .width) (now tables .checks) (now row) (now syndromes) ⌝ }
+    ensures elements { λ r. ⌜ ((k : ℕ) → k < now (tables .entry) .width → getD r k 0 < F·Ring .ops (now (field .entry)) .order) ⌝ }
+    ensures only { λ r. ⌜ ((cs : List ℕ) → CloseRow (record { ring = F·Ring .ops (now (field .entry)); point = F·Field .points (now (field .entry)) }) (now (tables .entry) .checks) (now (marked .entry)) (take (now (tables .entry) .width) (now (row .entry))) cs → take (now (tables .entry) .width) r ≡ cs) ⌝ }
+{
+    let rest = times_syndromes(field, &tables.locator, syndromes, tables.checks);
+    let found = shortest(field, &rest[marked.len()..tables.checks]);
+    let columns = damaged(field, tables, &found);
+    let locator = locator(field, &columns, tables.width);
+    let damage = Damage {
+        columns,
+        above: times_syndromes(field, &locator, syndromes, tables.checks),
+        below: derivative_of(field, &locator, tables.checks),
+    };
+    repaired(field, tables, &damage, row)
 }
