@@ -7,3 +7,5 @@ pub mod Marching
 pub mod Nested
 pub mod Flagging
 pub mod Repairing
+pub mod Nearing
+pub mod Restoring

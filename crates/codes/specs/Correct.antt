@@ -4,7 +4,7 @@ use mathlib.Core.Bool.{Bool, true, false, cond, not, _||_}
 use mathlib.Core.List.{List}
 use Prim.Native.Nat.{ℕ, _+_, _-_, _*_, _%_, _≤_, _<_, min}
 use lib.Dec.{ltb, eqb}
-use lib.ListN.{length, getD, take}
+use lib.ListN.{length, getD, take, drop}
 use Rattle.std.specs.declared.option.Option.{Option}
 use Rattle.std.specs.declared.option.Option.the-variants.{Some, None}
 use Rattle.basics.specs.Checks.{check, _or-else_}
@@ -96,3 +96,15 @@ pub record Ready (f : FieldOps) (inv : ℕ → ℕ) (ms : List ℕ) (t : Tables)
 -- ss are the syndromes 1 to r of the first n symbols of the row
 pub record Syndromes (f : FieldOps) (n r : ℕ) (row ss : List ℕ) : Type 0 where
   pub is : (j : ℕ) → j < r → getD ss j 0 ≡ moment (f .ring) n (f .point) (at (take n row)) (j + 1)
+
+-- the row of n symbols from place s on is corrected, and all else is as it was
+pub record CorrectedAt (f : FieldOps) (n r : ℕ) (ms : List ℕ) (s : ℕ) (xs ys : List ℕ) : Type 0 where
+  pub long : length ys ≡ length xs
+  pub row : Corrected f r ms (takenRow (f .ring .order) (take n (drop s xs))) (take n (drop s ys))
+  pub before : (i : ℕ) → i < s → getD ys i 0 ≡ getD xs i 0
+  pub after : (i : ℕ) → s + n ≤ i → getD ys i 0 ≡ getD xs i 0
+
+-- no code row is close enough to it, and all is as it was
+pub record LostAt (f : FieldOps) (n r : ℕ) (ms : List ℕ) (s : ℕ) (xs ys : List ℕ) : Type 0 where
+  pub same : ys ≡ xs
+  pub none : (cs : List ℕ) → CloseRow f r ms (takenRow (f .ring .order) (take n (drop s xs))) cs → ⊥

@@ -5,6 +5,8 @@ ghost use mathlib.Core.List.{List};
 ghost use Prim.Native.Nat.{ℕ, _+_, _-_, _*_, _≤_, _<_};
 ghost use lib.Dec.{eqb};
 ghost use lib.ListN.{length, getD, take, drop, replicate};
+ghost use Rattle.std.specs.declared.option.Option.the-variants.{None};
+ghost use Rattle.std.specs.Options.{Cases as BySome};
 ghost use Rattle.std.specs.Results.{Cases};
 ghost use Rattle.std.specs.Vec.{made};
 ghost use Rattle.basics.specs.Checks.{verdict};
@@ -15,12 +17,16 @@ ghost use Rattle.algebra.specs.Polynomials.{times, product, multiple, derivativ
 ghost use Rattle.algebra.specs.Recurrences.{at, Shortest};
 ghost use Rattle.codes.specs.Poly.{productAt, valueAt};
 ghost use Rattle.codes.specs.Fill.{Tabled, powerOf};
-ghost use Rattle.codes.specs.Correct.{correctFault, FitsChecks, Flagged, repairedAt, Tells, Ready, Syndromes};
+ghost use Rattle.codes.specs.Correct.{correctFault, FitsChecks, Flagged, repairedAt, Tells, Ready, Syndromes, CorrectedAt, LostAt, refusal, CorrectedRows, Left};
 use crate::poly::evaluate;
 use crate::poly::one;
 use crate::poly::product_at;
 use crate::poly::times_factor;
+use crate::rows::cleared;
+use crate::rows::power_table;
 use crate::rows::rises;
+use crate::rows::rules;
+use crate::rows::store;
 use fields::Field;
 use fields::LANES;
 use fields::Lanes;
@@ -279,7 +285,8 @@ fn differs(marked: bool, a: u16, b: u16) -> usize
 // How many columns that are not marked differ.
 fn distance(tables: &Tables, a: &[u16; 256], b: &[u16; 256]) -> usize
     requires { ⌜ now tables .width ≤ 256 ⌝ }
-    ensures { λ r. ⌜ r ≡ count (now (tables .entry) .width) (λ k. not (getD (now (tables .entry) .marks) k false || eqb (getD (now (a .entry)) k 0) (getD (now (b .entry)) k 0))) ⌝ }
+    ensures few { λ r. ⌜ r ≤ now (tables .entry) .width ⌝ }
+    ensures value { λ r. ⌜ r ≡ count (now (tables .entry) .width) (λ k. not (getD (now (tables .entry) .marks) k false || eqb (getD (now (a .entry)) k 0) (getD (now (b .entry)) k 0))) ⌝ }
 {
     let mut total: usize = 0;
     for k in 0..tables.width {
@@ -323,4 +330,98 @@ fn candidate<F: Field>(
         below: derivative_of(field, &locator, tables.checks),
     };
     repaired(field, tables, &damage, row)
+}
+
+// Whether the repaired row is a code row that is close enough to the row.
+fn is_close<F: Field>(
+    field: &F,
+    marked: &[u16],
+    tables: &Tables,
+    row: &[u16; 256],
+    repaired: &[u16; 256],
+) -> bool
+    requires ready { ⌜ Ready (record { ring = F·Ring .ops (now field); point = F·Field .points (now field) }) (F·Field .inv (now field)) (now marked) (now tables) ⌝ }
+    requires elements { ⌜ ((k : ℕ) → k < now tables .width → getD (now repaired) k 0 < F·Ring .ops (now field) .order) ⌝ }
+    ensures { λ r. ⌜ Tells r (CloseRow (record { ring = F·Ring .ops (now (field .entry)); point = F·Field .points (now (field .entry)) }) (now (tables .entry) .checks) (now (marked .entry)) (take (now (tables .entry) .width) (now (row .entry))) (take (now (tables .entry) .width) (now (repaired .entry)))) ⌝ }
+{
+    let left = syndromes_of(field, tables, repaired);
+    if !all_zero(&left, tables.checks) {
+        return false;
+    }
+    2 * distance(tables, repaired, row) + marked.len() <= tables.checks
+}
+
+// The code row that is close enough to the row, or None where there is none.
+fn decode<F: Field>(
+    field: &F,
+    marked: &[u16],
+    tables: &Tables,
+    row: &[u16; 256],
+) -> Option<[u16; 256]>
+    requires ready { ⌜ Ready (record { ring = F·Ring .ops (now field); point = F·Field .points (now field) }) (F·Field .inv (now field)) (now marked) (now tables) ⌝ }
+    requires elements { ⌜ ((k : ℕ) → k < now tables .width → getD (now row) k 0 < F·Ring .ops (now field) .order) ⌝ }
+    ensures { λ r. ⌜ BySome r ((cs : List ℕ) → CloseRow (record { ring = F·Ring .ops (now (field .entry)); point = F·Field .points (now (field .entry)) }) (now (tables .entry) .checks) (now (marked .entry)) (take (now (tables .entry) .width) (now (row .entry))) cs → ⊥) (λ v. CloseRow (record { ring = F·Ring .ops (now (field .entry)); point = F·Field .points (now (field .entry)) }) (now (tables .entry) .checks) (now (marked .entry)) (take (now (tables .entry) .width) (now (row .entry))) (take (now (tables .entry) .width) v)) ⌝ }
+{
+    let syndromes = syndromes_of(field, tables, row);
+    if all_zero(&syndromes, tables.checks) {
+        return Some(*row);
+    }
+    let repaired = candidate(field, marked, tables, row, &syndromes);
+    if !is_close(field, marked, tables, row, &repaired) {
+        return None;
+    }
+    Some(repaired)
+}
+
+// Corrects the row from `start` on, or says that no code row is close enough to it.
+fn correct_row<F: Field>(
+    field: &F,
+    marked: &[u16],
+    tables: &Tables,
+    rows: &mut [u16],
+    start: usize,
+) -> bool
+    requires inside { ⌜ start + now tables .width ≤ length (now rows) ⌝ }
+    requires ready { ⌜ Ready (record { ring = F·Ring .ops (now field); point = F·Field .points (now field) }) (F·Field .inv (now field)) (now marked) (now tables) ⌝ }
+    ensures found { λ r. ⌜ (r ≡ true → CorrectedAt (record { ring = F·Ring .ops (now (field .entry)); point = F·Field .points (now (field .entry)) }) (now (tables .entry) .width) (now (tables .entry) .checks) (now (marked .entry)) start (now (rows .entry)) (now (rows .exit))) ⌝ }
+    ensures lost { λ r. ⌜ (r ≡ false → LostAt (record { ring = F·Ring .ops (now (field .entry)); point = F·Field .points (now (field .entry)) }) (now (tables .entry) .width) (now (tables .entry) .checks) (now (marked .entry)) start (now (rows .entry)) (now (rows .exit))) ⌝ }
+{
+    let row = cleared(field, marked, rows, start, tables.width);
+    let Some(found) = decode(field, marked, tables, &row) else {
+        return false;
+    };
+    store(rows, start, &found, tables.width);
+    true
+}
+
+// Corrects every row of `width` symbols: each becomes the one code row, with that many checks, that is close enough to it, which
+// says that twice the unmarked columns that differ, plus the marked ones, is at most the number of checks. A symbol of the order
+// or above counts as 0. The first row to which no code row is close enough is answered as lost; it and those after it stay.
+pub fn correct_rows<F: Field>(
+    field: &F,
+    width: usize,
+    checks: usize,
+    marked: &[u16],
+    rows: &mut [u16],
+) -> Result<(), CorrectFault>
+    ensures fault { λ r. ⌜ Cases r (λ _. correctFault (F·Ring .ops (now (field .entry)) .order) width checks (now (marked .entry)) (length (now (rows .entry))) ≡ None) (λ e. correctFault (F·Ring .ops (now (field .entry)) .order) width checks (now (marked .entry)) (length (now (rows .entry))) ≡ refusal e) ⌝ }
+    ensures corrected { λ r. ⌜ Cases r (λ _. CorrectedRows (record { ring = F·Ring .ops (now (field .entry)); point = F·Field .points (now (field .entry)) }) width checks (now (marked .entry)) (now (rows .entry)) (now (rows .exit))) (Left (record { ring = F·Ring .ops (now (field .entry)); point = F·Field .points (now (field .entry)) }) width checks (now (marked .entry)) (now (rows .entry)) (now (rows .exit))) ⌝ }
+{
+    check(field.order(), width, checks, marked, rows.len())?;
+    rules(field);
+    let marks = flags(marked);
+    let tables = Tables {
+        width,
+        checks,
+        powers: power_table(field, width, checks),
+        inverses: inverse_points(field, width),
+        marks,
+        locator: locator(field, &marks, width),
+    };
+    for k in 0..rows.len() / width {
+        if !correct_row(field, marked, &tables, rows, k * width) {
+            return Err(CorrectFault::Lost(k));
+        }
+    }
+    Ok(())
 }

@@ -14,7 +14,7 @@ ghost use Rattle.algebra.specs.Polynomials.{times, product};
 ghost use Rattle.codes.specs.Fill.{fillFault, Fits, FitsRow, FilledAt, Tabled, powerOf, fillerOf, Placed, Stored, FilledRows, nested};
 use crate::poly::one;
 use crate::poly::times_factor;
-use crate::rows::load;
+use crate::rows::cleared;
 use crate::rows::place;
 use crate::rows::power_table;
 use crate::rows::rises;
@@ -202,8 +202,7 @@ fn fill_row<F: Field>(
     ensures { λ _. ⌜ FilledAt (record { ring = F·Ring .ops (now (field .entry)); point = F·Field .points (now (field .entry)) }) width (now (columns .entry)) start (now (rows .entry)) (now (rows .exit)) ⌝ }
 {
     let checks = columns.len();
-    let mut row = load(rows, start, width, field.order());
-    place(&mut row, columns, &[0; LANES]);
+    let mut row = cleared(field, columns, rows, start, width);
     let syndromes = field.combine(&row[0..width], &tables.powers, checks);
     let values = field.combine(&syndromes[0..checks], &tables.fillers, checks);
     place(&mut row, columns, &values);

@@ -6,7 +6,7 @@ ghost use lib.ListN.{length, getD, replicate};
 ghost use Rattle.basics.specs.Lists.{Updated};
 ghost use Rattle.fields.specs.Rings.{Inverses, Points, taken, power};
 ghost use Rattle.algebra.specs.Rows.{rising};
-ghost use Rattle.codes.specs.Fill.{Tabled, powerOf, Placed, Stored};
+ghost use Rattle.codes.specs.Fill.{Tabled, powerOf, Placed, Copied, Stored};
 use fields::Field;
 use fields::LANES;
 use fields::Lanes;
@@ -39,6 +39,25 @@ pub(crate) fn place(row: &mut [u16; 256], columns: &[u16], values: &Lanes)
     for k in 0..columns.len() {
         row[columns[k] as usize] = values[k];
     }
+}
+
+// A copy of the row from `start` on, with 0 in the given columns.
+pub(crate) fn cleared<R: Ring>(
+    ring: &R,
+    columns: &[u16],
+    rows: &[u16],
+    start: usize,
+    width: usize,
+) -> [u16; 256]
+    requires inside { ⌜ start + width ≤ length (now rows) ⌝ }
+    requires few { ⌜ width ≤ 256 ⌝ }
+    requires checks { ⌜ length (now columns) ≤ 64 ⌝ }
+    requires columns { ⌜ rising 0 width (now columns) ≡ true ⌝ }
+    ensures { λ r. ⌜ Copied (R·Ring .ops (now (ring .entry)) .order) width (now (columns .entry)) start (now (rows .entry)) r ⌝ }
+{
+    let mut row = load(rows, start, width, ring.order());
+    place(&mut row, columns, &[0; LANES]);
+    row
 }
 
 // Writes the row back.

@@ -26,4 +26,5 @@ loop-k-again c =
 pub returns : need.returns
 returns c =
     let t : ℕ → Bool = λ k. not (getD (c .args .tables .now .marks) k false || eqb (getD (c .args .a .now) k 0) (getD (c .args .b .now) k 0)) in
-    let e : c .loop-k .k ≡ c .args .tables .now .width = omega arith in c .loop-k .inv ∙ ap (λ (n : ℕ). count n t) e
+    let e : c .loop-k .k ≡ c .args .tables .now .width = omega arith in
+    record { few = omega (arith, count-most (c .loop-k .k) t); value = c .loop-k .inv ∙ ap (λ (n : ℕ). count n t) e }
