@@ -1,19 +1,25 @@
 -- A row of many corrected, from the one that was found for its copy.
-use mathlib.Core.Path.{_≡_, sym, ap, _∙_, subst}
-use mathlib.Core.Bool.{Bool, true, false, cond}
+use mathlib.Core.Path.{_≡_, refl, sym, ap, _∙_, subst}
+use mathlib.Core.Bool.{Bool, true, false, cond, not, _||_}
 use mathlib.Core.List.{List}
-use Prim.Native.Nat.{ℕ, _+_, _≤_, _<_}
+use Prim.Native.Nat.{ℕ, _+_, _-_, _*_, _/_, _%_, _≤_, _<_, min}
 use native.Mathlib.Omega.{arith}
+use lib.Dec.{ltb, eqb}
 use lib.ListN.{length, getD, take, drop, length-map}
 use Rattle.std.proofs.shelf.Lists.{getD-map, getD-take, ext-getD}
 use Rattle.std.proofs.shelf.Ways.{tells}
+use Rattle.std.specs.declared.option.Option.{Option}
+use Rattle.std.specs.declared.option.Option.the-variants.{Some, None}
+use Rattle.basics.specs.Checks.{check, _or-else_}
 use Rattle.fields.specs.Rings.{FieldOps, RingLaws, Inverses, Points, taken}
-use Rattle.algebra.specs.Rows.{among, takenRow, CloseRow, Corrected}
+use Rattle.algebra.specs.Rows.{among, rising, takenRow, CloseRow, Corrected}
 use Rattle.algebra.proofs.Correct.{close-same, only-close}
 use Rattle.codes.specs.Fill.{Copied, Stored}
-use Rattle.codes.specs.Correct.{CorrectedAt}
+use Rattle.codes.specs.Correct.{CorrectedAt, LostAt, correctFault, refusal, CorrectedRows, LostRow, Left}
+use Rattle.codes.specs.declared.correct.CorrectFault.{CorrectFault}
+use Rattle.codes.specs.declared.correct.CorrectFault.the-variants.{Width, Checks, Marking, Length, Lost}
 use Rattle.codes.proofs.Nearing.{part-long}
-use Rattle.codes.proofs.Rowing.{getD-part, length-part}
+use Rattle.codes.proofs.Rowing.{getD-part, length-part, part-same, Until, until-more, until-all}
 
 -- the cleared copy is a row of elements
 pub copied-in : (q n : ℕ) (ms : List ℕ) (s : ℕ) (xs row : List ℕ) → 0 < q → Copied q n ms s xs row → (k : ℕ) → k < n → getD row k 0 < q
@@ -63,3 +69,43 @@ module _ (f : FieldOps) (n r : ℕ) (ms : List ℕ) (s : ℕ) (xs cleared : List
         stored : take n (drop s ys) ≡ take n zs
         stored = ext-getD 0 (take n (drop s ys)) (take n zs) (ys-long ∙ sym (part-long n zs few long))
             (λ k h. let g : k < n = omega (arith, ys-long) in getD-part n s ys k g ∙ u .inside k g ∙ sym (getD-take n zs k 0 g))
+
+-- the row ys is the one code row that is close enough to the row xs
+abbrev pub Restored : FieldOps → ℕ → List ℕ → List ℕ → List ℕ → Type 0
+Restored f r ms xs ys = Corrected f r ms (takenRow (f .ring .order) xs) ys
+
+module _ (f : FieldOps) (n r : ℕ) (ms xs : List ℕ) where
+  pub restored-more : (k : ℕ) (ys zs : List ℕ) → Until (Restored f r ms) n k xs ys → CorrectedAt f n r ms (k * n) ys zs → Until (Restored f r ms) n (k + 1) xs zs
+  restored-more k ys zs u a = until-more (Restored f r ms) n xs k ys zs u (record { long = a .long; row = a .row; before = a .before; after = a .after })
+
+  pub restored-all : (k : ℕ) (ys : List ℕ) → 0 < n → length xs / n ≤ k → Until (Restored f r ms) n k xs ys → CorrectedRows f n r ms xs ys
+  restored-all k ys pos h u = record { long = u .long; rows = until-all (Restored f r ms) n xs k ys pos h u }
+
+  -- the rows below row k are corrected, and row k is lost
+  pub lost-here : (k : ℕ) (ys zs : List ℕ) → k * n + n ≤ length xs → Until (Restored f r ms) n k xs ys → LostAt f n r ms (k * n) ys zs → LostRow f n r ms k xs zs
+  lost-here k ys zs h u a = subst (LostRow f n r ms k xs) (sym (a .same)) (record {
+    whole = h;
+    long = u .long;
+    before = u .rows;
+    none = λ cs c. a .none cs (subst (λ (row : List ℕ). CloseRow f r ms (takenRow (f .ring .order) row) cs) (sym (part-same n (k * n) xs ys (u .long) (λ i q _. u .rest i q))) c);
+    rest = u .rest;
+  })
+
+-- a row is lost only where nothing is refused
+unlike : (e : CorrectFault) (k : ℕ) → refusal e ≡ Some e → Some e ≡ Some (Lost k) → ⊥
+unlike e k h p = let q : e ≡ Lost k = cc in let z : None ≡ Some e = sym (ap refusal q) ∙ h in let y : _≡_ {A = ℕ} 0 1 = cc in omega arith
+
+never-lost : (a b c d : Bool) (k : ℕ) → (check a Width or-else check b Checks or-else check c Marking or-else check d Length) ≡ Some (Lost k) → ⊥
+never-lost true b c d k e = unlike Width k refl e
+never-lost false true c d k e = unlike Checks k refl e
+never-lost false false true d k e = unlike Marking k refl e
+never-lost false false false true k e = unlike Length k refl e
+never-lost false false false false k e = let y : _≡_ {A = ℕ} 0 1 = cc in omega arith
+
+pub refused : (f : FieldOps) (q n r : ℕ) (ms xs : List ℕ) (size : ℕ) (e : CorrectFault) → correctFault q n r ms size ≡ Some e
+    → (correctFault q n r ms size ≡ refusal e) × Left f n r ms xs xs e
+refused f q n r ms xs size Width h = (h, refl)
+refused f q n r ms xs size Checks h = (h, refl)
+refused f q n r ms xs size Marking h = (h, refl)
+refused f q n r ms xs size Length h = (h, refl)
+refused f q n r ms xs size (Lost k) h = absurd (never-lost (ltb n 1 || ltb (min (q - 1) 256) n) (ltb 64 r) (ltb r (length ms) || not (rising 0 n ms)) (not (eqb (size % n) 0)) k h)
