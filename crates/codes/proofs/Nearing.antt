@@ -9,7 +9,7 @@ use lib.Dec.{eqb, leb}
 use lib.ListN.{length, getD, take}
 use Rattle.std.proofs.shelf.Lists.{length-take, getD-take}
 use Rattle.std.proofs.shelf.Tests.{eq-eqb, or-right, leb-true, leb-false}
-use Rattle.fields.specs.Rings.{RingOps, FieldOps}
+use Rattle.fields.specs.Rings.{FieldOps}
 use Rattle.algebra.specs.Rows.{count, moment, among, differing, CodeRow, CloseRow}
 use Rattle.algebra.specs.Recurrences.{at}
 use Rattle.algebra.proofs.Count.{count-same, count-none, differing-count}

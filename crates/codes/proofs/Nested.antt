@@ -5,11 +5,10 @@ use mathlib.Core.List.{List}
 use Prim.Native.Nat.{ℕ, zero, suc, _+_, _-_, _≤_, _<_}
 use native.Mathlib.Numerals.{add-one}
 use native.Mathlib.Omega.{arith}
-use lib.ListN.{length, getD, replicate}
-use Rattle.fields.specs.Rings.{RingOps, sum, power}
+use lib.ListN.{getD}
+use Rattle.fields.specs.Rings.{RingOps}
 use Rattle.algebra.specs.Polynomials.{times, product, turned}
 use Rattle.algebra.specs.Recurrences.{at}
-use Rattle.basics.specs.Lists.{Updated}
 use Rattle.algebra.proofs.Ring.{Solid}
 use Rattle.algebra.proofs.Solve.{mul-zero, zero-add}
 use Rattle.algebra.proofs.Poly.{turned-more, turned-first}

@@ -8,7 +8,6 @@ use lib.Dec.{ltb, eqb}
 use lib.ListN.{length, getD, take, drop, length-map}
 use Rattle.std.proofs.shelf.Lists.{getD-map, getD-take, ext-getD}
 use Rattle.std.proofs.shelf.Ways.{tells}
-use Rattle.std.specs.declared.option.Option.{Option}
 use Rattle.std.specs.declared.option.Option.the-variants.{Some, None}
 use Rattle.basics.specs.Checks.{check, _or-else_}
 use Rattle.fields.specs.Rings.{FieldOps, RingLaws, Inverses, Points, taken}

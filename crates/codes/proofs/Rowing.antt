@@ -3,7 +3,7 @@ use mathlib.Core.Path.{_≡_, refl, sym, ap, ap₂, _∙_, subst}
 use mathlib.Core.Bool.{Bool, true, false, cond, true≢false}
 use mathlib.Core.List.{List, [], _∷_}
 use mathlib.Core.Logic.{_⊎_, inl, inr}
-use Prim.Native.Nat.{ℕ, zero, suc, _+_, _-_, _*_, _/_, _≤_, _<_, min}
+use Prim.Native.Nat.{ℕ, suc, _+_, _-_, _*_, _/_, _≤_, _<_, min}
 use native.Mathlib.Nat.{add-mul, suc-mul, le-div-iff-mul-le}
 use native.Mathlib.Numerals.{add-one}
 use native.Mathlib.Omega.{arith}
@@ -13,8 +13,8 @@ use Rattle.std.proofs.shelf.Lists.{length-take, length-drop, getD-take, getD-dr
 use Rattle.std.proofs.shelf.Tests.{cases-bool, cases-lt, and-from, le-leb, lt-ltb}
 use Rattle.basics.specs.Lists.{Updated, rowOf}
 use Rattle.basics.proofs.Updating.{getD-zeros}
-use Rattle.fields.specs.Rings.{RingOps, FieldOps, RingLaws, Inverses, Points, Combined, taken, sum, power, entry}
-use Rattle.algebra.specs.Rows.{among, rising, syndrome, Filled}
+use Rattle.fields.specs.Rings.{FieldOps, RingLaws, Inverses, Points, Combined, taken, sum, power, entry}
+use Rattle.algebra.specs.Rows.{among, rising, syndrome}
 use Rattle.algebra.proofs.Ring.{solid}
 use Rattle.algebra.proofs.Sum.{sum-same}
 use Rattle.algebra.proofs.Columns.{rises, rising-below, among-entry, entry-among}

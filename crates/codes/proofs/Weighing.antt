@@ -1,12 +1,11 @@
 -- The table by which columns are filled, from the steps that make it.
-use mathlib.Core.Path.{_≡_, refl, sym, ap, ap₂, _∙_, subst}
+use mathlib.Core.Path.{_≡_, refl, ap, ap₂, _∙_}
 use mathlib.Core.Bool.{Bool, true, cond}
 use mathlib.Core.List.{List}
 use Prim.Native.Nat.{ℕ, zero, suc, _+_, _-_, _≤_, _<_}
 use native.Mathlib.Numerals.{add-one}
 use native.Mathlib.Omega.{arith}
-use lib.ListN.{length, getD, replicate}
-use Rattle.basics.specs.Lists.{Updated}
+use lib.ListN.{getD}
 use Rattle.fields.specs.Rings.{RingOps, entry}
 use Rattle.algebra.specs.Polynomials.{times, product, turned, quotient, gamma, weight, filler}
 use Rattle.algebra.proofs.Ring.{Solid}

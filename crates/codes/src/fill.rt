@@ -1,17 +1,15 @@
 // Filling: given rows and as many columns as there are checks, the code rows that agree with them in all other columns.
 ghost use mathlib.Core.Path.{_≡_};
-ghost use mathlib.Core.Bool.{true, cond};
-ghost use mathlib.Core.List.{List};
-ghost use Prim.Native.Nat.{ℕ, suc, _+_, _-_, _*_, _/_, _≤_, _<_};
-ghost use lib.ListN.{length, getD, take, drop, replicate};
+ghost use mathlib.Core.Bool.{true};
+ghost use Prim.Native.Nat.{ℕ, _+_, _-_, _*_, _/_, _≤_, _<_};
+ghost use lib.ListN.{length, getD, replicate};
 ghost use Rattle.std.specs.Results.{Cases};
 ghost use Rattle.std.specs.Vec.{made};
 ghost use Rattle.basics.specs.Checks.{verdict};
-ghost use Rattle.basics.specs.Lists.{Updated, rowOf};
-ghost use Rattle.fields.specs.Rings.{RingOps, FieldOps, Inverses, Points, taken, power, entry};
-ghost use Rattle.algebra.specs.Rows.{rising, among, Filled};
-ghost use Rattle.algebra.specs.Polynomials.{times, product};
-ghost use Rattle.codes.specs.Fill.{fillFault, Fits, FitsRow, FilledAt, Tabled, powerOf, fillerOf, Placed, Stored, FilledRows, nested};
+ghost use Rattle.basics.specs.Lists.{Updated};
+ghost use Rattle.fields.specs.Rings.{Inverses, Points, entry};
+ghost use Rattle.algebra.specs.Polynomials.{product};
+ghost use Rattle.codes.specs.Fill.{fillFault, Fits, FitsRow, FilledAt, Tabled, powerOf, fillerOf, FilledRows, nested};
 use crate::poly::one;
 use crate::poly::times_factor;
 use crate::rows::cleared;

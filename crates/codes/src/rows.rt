@@ -1,7 +1,7 @@
 // What every work on rows shares: a row's copy, its columns, and the powers of the columns' points.
 ghost use mathlib.Core.Path.{_≡_};
 ghost use mathlib.Core.Bool.{true};
-ghost use Prim.Native.Nat.{ℕ, _+_, _≤_, _<_};
+ghost use Prim.Native.Nat.{_+_, _≤_, _<_};
 ghost use lib.ListN.{length, getD, replicate};
 ghost use Rattle.basics.specs.Lists.{Updated};
 ghost use Rattle.fields.specs.Rings.{Inverses, Points, taken, power};

@@ -1,6 +1,4 @@
-use mathlib.Core.Path.{_≡_, refl}
 use native.Mathlib.Omega.{arith}
-use lib.ListN.{length}
 use Rattle.codes.proofs.Repairing.{Worked, repaired-in, repaired-only}
 use Rattle.codes.proofs.correct.candidate.Needs as need
 

@@ -1,8 +1,6 @@
 use mathlib.Core.Path.{refl, sym}
 use mathlib.Core.Bool.{true≢false}
-use Prim.Native.Nat.{_≤_, _<_}
 use native.Mathlib.Omega.{arith}
-use lib.ListN.{length}
 use Rattle.codes.proofs.Restoring.{copied-in, none-close, restored}
 use Rattle.codes.proofs.correct.correct_row.Needs as need
 
