@@ -1,16 +1,17 @@
 -- Rising columns, and weights spread on columns.
 use mathlib.Core.Path.{_≡_, refl, sym, ap, _∙_}
-use mathlib.Core.Bool.{true, true≢false}
+use mathlib.Core.Bool.{true, false, true≢false}
 use mathlib.Core.List.{List, [], _∷_}
 use mathlib.Core.Logic.{_⊎_, inl, inr}
 use Prim.Native.Nat.{ℕ, zero, suc, _≤_, _<_}
 use native.Mathlib.Omega.{arith}
 use lib.Dec.{eqb}
 use lib.ListN.{length, getD}
-use Rattle.std.proofs.shelf.Tests.{and-parts, leb-true, ltb-true, eqb-true, eq-eqb, or-cases, or-left, or-right}
+use Rattle.std.proofs.shelf.Tests.{cases-bool, and-parts, leb-true, ltb-true, eqb-true, eq-eqb, or-cases, or-left, or-right}
 use Rattle.fields.specs.Rings.{RingOps, sum, power}
-use Rattle.algebra.specs.Rows.{moment, among, rising}
+use Rattle.algebra.specs.Rows.{count, moment, among, rising}
 use Rattle.algebra.specs.Polynomials.{unit}
+use Rattle.algebra.proofs.Count.{count-some, count-apart, count-among}
 use Rattle.algebra.proofs.Ring.{Solid}
 use Rattle.algebra.proofs.Solve.{ring, mul-zero}
 use Rattle.algebra.proofs.Sum.{power-in, sum-only, sum-same, sum-zero, sum-scale, sum-swap}
@@ -58,6 +59,27 @@ entry-among i (m ∷ ms) e = go (entry-among i ms) (or-cases _ _ e)
         → (k : ℕ) × ((k < length (m ∷ ms)) × (getD (m ∷ ms) k 0 ≡ i))
     go ih (inl a) = (0, (omega arith, sym (eqb-true i m a)))
     go ih (inr a) = let (k, (h, b)) = ih a in (suc k, (omega arith, b))
+
+-- each of them is counted once
+pub rising-count : (b n : ℕ) (ms : List ℕ) → rising b n ms ≡ true → count n (λ k. among k ms) ≡ length ms
+rising-count b n ms e = omega (arith, count-among n ms, least b ms e)
+  where
+    least : (b : ℕ) (ms : List ℕ) → rising b n ms ≡ true → length ms ≤ count n (λ k. among k ms)
+    least b [] e = omega arith
+    least b (m ∷ ms) e =
+        let a = rises b n m ms e in
+        omega (
+          arith,
+          count-some n m (λ k. eqb k m) (a .below) (eq-eqb m m refl),
+          least (suc m) ms (a .rest),
+          count-apart n (λ k. eqb k m) (λ k. among k ms) (λ k h. later (suc m) ms k (a .rest) (omega (arith, eqb-true k m h))),
+        )
+      where
+        later : (b : ℕ) (ms : List ℕ) (k : ℕ) → rising b n ms ≡ true → k < b → among k ms ≡ false
+        later b ms k e h = elim (cases-bool (among k ms)) [
+          | inl p ↦ let (j, (i, q)) = entry-among k ms p in absurd (omega (arith, rising-from b n ms e j i))
+          | inr p ↦ p
+        ]
 
 -- the weights w k, k below r, each at its column col k
 abbrev pub scatter : RingOps → ℕ → (ℕ → ℕ) → (ℕ → ℕ) → ℕ → ℕ

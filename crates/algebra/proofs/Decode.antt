@@ -7,20 +7,19 @@ use native.Mathlib.Omega.{arith}
 use lib.Dec.{eqb}
 use Rattle.std.proofs.shelf.Tests.{or-parts, or-cases, not-true, not-false, eqb-true, eqb-false, eq-eqb, ne-eqb}
 use Rattle.fields.specs.Rings.{RingOps}
-use Rattle.algebra.specs.Rows.{moment}
-use Rattle.algebra.specs.Polynomials.{product, turned}
+use Rattle.algebra.specs.Rows.{count, moment}
+use Rattle.algebra.specs.Polynomials.{product, value, derivative, turned}
 use Rattle.algebra.specs.Recurrences.{gap, Least}
-use Rattle.algebra.proofs.Count.{count, count-or, count-same}
+use Rattle.algebra.proofs.Count.{count-or, count-same}
 use Rattle.algebra.proofs.Ring.{Solid, Divides}
 use Rattle.algebra.proofs.Solve.{signed, neg-zero, equal-from-difference, positive}
 use Rattle.algebra.proofs.Sum.{sum-in, sum-same}
 use Rattle.algebra.proofs.Moments.{Apart}
 use Rattle.algebra.proofs.Distance.{moment-minus}
-use Rattle.algebra.proofs.Roots.{value}
 use Rattle.algebra.proofs.Poly.{product-root, product-nonroot, turned-same, spread}
 use Rattle.algebra.proofs.Inverse.{turned-root, value-root}
 use Rattle.algebra.proofs.Find.{Only, kept, kept-marked, kept-none, kept-some, filtered, least-product}
-use Rattle.algebra.proofs.Forney.{derivative, evaluator, forney}
+use Rattle.algebra.proofs.Forney.{evaluator, forney}
 
 -- The steps, for n columns with the points p and the row y; g marks columns.
 

@@ -10,8 +10,8 @@ use lib.ListN.{length, getD}
 use Rattle.std.proofs.shelf.Lists.{ext-getD}
 use Rattle.std.proofs.shelf.Tests.{or-parts, not-false, eqb-true}
 use Rattle.fields.specs.Rings.{RingOps, FieldOps, RingLaws, Inverses, Points, power}
-use Rattle.algebra.specs.Rows.{moment, CodeRow, among, differing}
-use Rattle.algebra.proofs.Count.{count, count-or, count-among, differing-count}
+use Rattle.algebra.specs.Rows.{count, moment, CodeRow, among, differing}
+use Rattle.algebra.proofs.Count.{count-or, count-among, differing-count}
 use Rattle.algebra.proofs.Ring.{Solid, solid, divides}
 use Rattle.algebra.proofs.Solve.{neg-mul, equal-from-difference, distrib-right}
 use Rattle.algebra.proofs.Sum.{sum-same, sum-add, sum-neg, power-nonzero}

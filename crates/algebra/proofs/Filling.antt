@@ -10,14 +10,14 @@ use Rattle.std.proofs.shelf.Tests.{both-ways, cases-bool, cond-true, cond-false
 use Rattle.fields.specs.Rings.{RingOps, FieldOps, RingLaws, Inverses, Points, taken, sum, power}
 use Rattle.fields.proofs.Guard.{taken-in}
 use Rattle.algebra.specs.Rows.{moment, syndrome, CodeRow, among, rising, Filled}
-use Rattle.algebra.specs.Polynomials.{turned, quotient, gamma, weight, filler}
+use Rattle.algebra.specs.Polynomials.{turned, quotient, gamma, weight, filler, value}
 use Rattle.algebra.proofs.Count.{count-all, count-among}
 use Rattle.algebra.proofs.Ring.{Solid, Divides, solid, divides}
 use Rattle.algebra.proofs.Solve.{ring, signed, mul-zero, zero-add, neg-neg, nonzero-mul}
 use Rattle.algebra.proofs.Sum.{sum-in, sum-same, sum-neg, sum-scale, sum-only, power-nonzero}
 use Rattle.algebra.proofs.Moments.{Apart, moment-add, moment-up}
 use Rattle.algebra.proofs.Weights.{weights, Meets}
-use Rattle.algebra.proofs.Roots.{value, values-moments}
+use Rattle.algebra.proofs.Roots.{values-moments}
 use Rattle.algebra.proofs.Columns.{rising-below, rising-apart, among-entry, entry-among, scatter, scatter-on, scatter-off, scatter-moment}
 use Rattle.algebra.proofs.Distance.{same-code-rows}
 use Rattle.algebra.proofs.Poly.{turned-reverse}

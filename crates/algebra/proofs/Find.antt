@@ -4,10 +4,9 @@ use mathlib.Core.Bool.{Bool, true, false, true≢false}
 use Prim.Native.Nat.{ℕ, suc, _+_, _*_, _-_, _≤_, _<_}
 use native.Mathlib.Omega.{arith}
 use Rattle.fields.specs.Rings.{RingOps, power}
-use Rattle.algebra.specs.Rows.{moment}
+use Rattle.algebra.specs.Rows.{count, moment}
 use Rattle.algebra.specs.Polynomials.{Normal, product, turned}
 use Rattle.algebra.specs.Recurrences.{gap, Fits, Least}
-use Rattle.algebra.proofs.Count.{count}
 use Rattle.algebra.proofs.Ring.{Solid, Divides}
 use Rattle.algebra.proofs.Solve.{mul-zero, zero-mul, zero-from-mul, nonzero-mul}
 use Rattle.algebra.proofs.Sum.{sum-in, sum-same, sum-zero}

@@ -4,29 +4,19 @@ use mathlib.Core.Bool.{Bool, true, false}
 use Prim.Native.Nat.{ℕ, zero, suc, _-_, _≤_, _<_}
 use native.Mathlib.Omega.{arith}
 use Rattle.fields.specs.Rings.{RingOps, sum, power}
-use Rattle.algebra.specs.Rows.{moment}
-use Rattle.algebra.specs.Polynomials.{times, product, quotient}
+use Rattle.algebra.specs.Rows.{count, moment}
+use Rattle.algebra.specs.Polynomials.{times, product, value, multiple, derivative, quotient}
 use Rattle.algebra.specs.Recurrences.{gap}
-use Rattle.algebra.proofs.Count.{count, count-some}
+use Rattle.algebra.proofs.Count.{count-some}
 use Rattle.algebra.proofs.Ring.{Solid, Divides}
 use Rattle.algebra.proofs.Solve.{ring, signed, mul-zero, zero-mul, zero-add, nonzero-mul, equal-from-difference, positive}
 use Rattle.algebra.proofs.Sum.{sum-in, sum-first, sum-same, sum-add, sum-scale, sum-swap, sum-only, sum-less, sum-beyond}
 use Rattle.algebra.proofs.Moments.{Apart, moment-up}
-use Rattle.algebra.proofs.Roots.{value}
 use Rattle.algebra.proofs.Recur.{gap-moment}
 use Rattle.algebra.proofs.Poly.{product-normal, product-root, sum-times}
 use Rattle.algebra.proofs.Inverse.{turned-root, value-root}
 use Rattle.algebra.proofs.Quotient.{quotient-times, quotient-beyond, without-others, without-itself}
 use Rattle.algebra.proofs.Find.{Only}
-
--- a added n times
-unfoldable pub multiple : RingOps → ℕ → ℕ → ℕ
-multiple o zero a = 0
-multiple o (suc n) a = o .add a (multiple o n a)
-
--- the derivative
-abbrev pub derivative : RingOps → (ℕ → ℕ) → ℕ → ℕ
-derivative o c j = multiple o (suc j) (c (suc j))
 
 -- c times the syndromes s 1, s 2, ..
 abbrev pub evaluator : RingOps → (ℕ → ℕ) → (ℕ → ℕ) → ℕ → ℕ

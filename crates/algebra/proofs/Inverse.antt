@@ -4,12 +4,11 @@ use mathlib.Core.Bool.{Bool, true}
 use Prim.Native.Nat.{ℕ, zero, suc, _+_, _-_, _<_}
 use native.Mathlib.Omega.{arith}
 use Rattle.fields.specs.Rings.{RingOps, power}
-use Rattle.algebra.specs.Polynomials.{product, turned}
-use Rattle.algebra.proofs.Count.{count}
+use Rattle.algebra.specs.Polynomials.{product, turned, value}
+use Rattle.algebra.specs.Rows.{count}
 use Rattle.algebra.proofs.Ring.{Solid, Divides}
 use Rattle.algebra.proofs.Solve.{ring, mul-zero, zero-from-mul}
 use Rattle.algebra.proofs.Sum.{sum-in, power-in, power-add, sum-same, sum-scale, power-nonzero}
-use Rattle.algebra.proofs.Roots.{value}
 use Rattle.algebra.proofs.Poly.{product-root}
 
 module _ {o : RingOps} (l : Solid o) where

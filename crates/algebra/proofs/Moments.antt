@@ -4,8 +4,7 @@ use mathlib.Core.Bool.{Bool, true, false, cond}
 use Prim.Native.Nat.{ℕ, zero, suc, _+_, _-_, _≤_, _<_}
 use native.Mathlib.Omega.{arith}
 use Rattle.fields.specs.Rings.{RingOps, sum, power}
-use Rattle.algebra.specs.Rows.{moment}
-use Rattle.algebra.proofs.Count.{count}
+use Rattle.algebra.specs.Rows.{count, moment}
 use Rattle.algebra.proofs.Ring.{Solid, Divides}
 use Rattle.algebra.proofs.Solve.{ring, distrib-right, zero-from-mul, mul-zero, zero-mul, zero-add, equal-from-difference, positive}
 use Rattle.algebra.proofs.Sum.{sum-in, power-in, sum-first, sum-same, sum-zero, sum-add, sum-scale}

@@ -6,7 +6,8 @@ use native.Mathlib.Decide.{decLt}
 use native.Mathlib.Omega.{arith}
 use Rattle.fields.specs.Rings.{RingOps, sum, power}
 use Rattle.algebra.specs.Polynomials.{unit, Normal, times, product, turned}
-use Rattle.algebra.proofs.Count.{count, count-on, count-off}
+use Rattle.algebra.specs.Rows.{count}
+use Rattle.algebra.proofs.Count.{count-on, count-off}
 use Rattle.algebra.proofs.Ring.{Solid, Divides}
 use Rattle.algebra.proofs.Solve.{ring, signed, mul-zero, zero-mul, nonzero-mul, equal-from-difference, positive}
 use Rattle.algebra.proofs.Sum.{sum-in, sum-first, sum-last, sum-same, sum-add, sum-scale, sum-reverse}

@@ -6,7 +6,8 @@ use native.Mathlib.Decide.{le-ind, ℕ-discrete}
 use native.Mathlib.Omega.{arith}
 use Rattle.fields.specs.Rings.{RingOps}
 use Rattle.algebra.specs.Polynomials.{unit, Normal, times, product, turned, quotient}
-use Rattle.algebra.proofs.Count.{count, count-some, count-on, count-off}
+use Rattle.algebra.specs.Rows.{count}
+use Rattle.algebra.proofs.Count.{count-some, count-on, count-off}
 use Rattle.algebra.proofs.Ring.{Solid, Divides}
 use Rattle.algebra.proofs.Solve.{ring, cancel-left, zero-from-mul, equal-from-difference, positive}
 use Rattle.algebra.proofs.Sum.{sum-in}

@@ -4,16 +4,12 @@ use Prim.Native.Nat.{ℕ, zero, suc, _<_}
 use native.Mathlib.Omega.{arith}
 use Rattle.fields.specs.Rings.{RingOps, sum, power}
 use Rattle.algebra.specs.Rows.{moment}
-use Rattle.algebra.specs.Polynomials.{unit}
+use Rattle.algebra.specs.Polynomials.{unit, value}
 use Rattle.algebra.proofs.Ring.{Solid, Divides}
 use Rattle.algebra.proofs.Solve.{ring, mul-zero}
 use Rattle.algebra.proofs.Sum.{sum-only, sum-same, sum-zero, sum-scale, sum-swap}
 use Rattle.algebra.proofs.Moments.{Apart}
 use Rattle.algebra.proofs.Weights.{weights}
-
--- the value at x of the polynomial with coefficients c k, k below n
-abbrev pub value : RingOps → ℕ → (ℕ → ℕ) → ℕ → ℕ
-value o n c x = sum o n (λ k. o .mul (c k) (power o x k))
 
 pub unit-same : (k : ℕ) → unit k k ≡ 1
 unit-same zero = refl

@@ -27,6 +27,19 @@ unfoldable pub product : RingOps → ℕ → (ℕ → Bool) → (ℕ → ℕ) �
 product o zero t p = unit 0
 product o (suc n) t p = cond (t n) (times o (p n) (product o n t p)) (product o n t p)
 
+-- the value at x of the polynomial with coefficients c k, k below n
+abbrev pub value : RingOps → ℕ → (ℕ → ℕ) → ℕ → ℕ
+value o n c x = sum o n (λ k. o .mul (c k) (power o x k))
+
+-- a added n times
+unfoldable pub multiple : RingOps → ℕ → ℕ → ℕ
+multiple o zero a = 0
+multiple o (suc n) a = o .add a (multiple o n a)
+
+-- the derivative: its coefficient j is coefficient j + 1 added j + 1 times
+abbrev pub derivative : RingOps → (ℕ → ℕ) → ℕ → ℕ
+derivative o c j = multiple o (suc j) (c (suc j))
+
 -- the coefficients c(0) to c(n) taken in the other order, as a value at x: the sum of c(j) × x^(n - j). It is x^n times the value
 -- at 1 / x, so that 1 - a z has the turned value x - a
 abbrev pub turned : RingOps → ℕ → (ℕ → ℕ) → ℕ → ℕ

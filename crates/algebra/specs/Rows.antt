@@ -1,8 +1,8 @@
 -- Code rows over a field, and rows that are filled to be one.
 use mathlib.Core.Path.{_≡_}
 use mathlib.Core.Bool.{Bool, true, false, cond, _&&_, _||_}
-use mathlib.Core.List.{List, [], _∷_}
-use Prim.Native.Nat.{ℕ, suc, _+_, _≤_, _<_}
+use mathlib.Core.List.{List, [], _∷_, map}
+use Prim.Native.Nat.{ℕ, zero, suc, _+_, _*_, _≤_, _<_}
 use lib.Dec.{eqb, leb, ltb}
 use lib.ListN.{length, getD}
 use Rattle.fields.specs.Rings.{RingOps, FieldOps, taken, sum, power}
@@ -24,6 +24,11 @@ pub record CodeRow (f : FieldOps) (r : ℕ) (cs : List ℕ) : Type 0 where
 abbrev pub among : ℕ → List ℕ → Bool
 among i [] = false
 among i (m ∷ ms) = eqb i m || among i ms
+
+-- how many k below n pass the test t
+unfoldable pub count : ℕ → (ℕ → Bool) → ℕ
+count zero t = 0
+count (suc n) t = cond (t 0) 1 0 + count n (λ k. t (suc k))
 
 -- how many columns, from i on and not among ms, have different entries
 abbrev pub differing : List ℕ → ℕ → List ℕ → List ℕ → ℕ
@@ -47,3 +52,19 @@ pub record FillOf (f : FieldOps) (ms xs ys : List ℕ) : Type 0 where
 pub record Filled (f : FieldOps) (ms xs ys : List ℕ) : Type 0 where
   pub is : FillOf f ms xs ys
   pub only : (zs : List ℕ) → FillOf f ms xs zs → zs ≡ ys
+
+-- the row with each entry of the order q or above taken as 0
+abbrev pub takenRow : ℕ → List ℕ → List ℕ
+takenRow q = map (taken q)
+
+-- cs is a code row with r checks, close enough to the row ss: twice the unmarked columns that differ, plus the marked ones, which
+-- are ms, is at most r
+pub record CloseRow (f : FieldOps) (r : ℕ) (ms ss cs : List ℕ) : Type 0 where
+  pub long : length cs ≡ length ss
+  pub code : CodeRow f r cs
+  pub few : 2 * differing ms 0 cs ss + length ms ≤ r
+
+-- cs is that row, and there is no other
+pub record Corrected (f : FieldOps) (r : ℕ) (ms ss cs : List ℕ) : Type 0 where
+  pub close : CloseRow f r ms ss cs
+  pub only : (zs : List ℕ) → CloseRow f r ms ss zs → zs ≡ cs

@@ -5,3 +5,7 @@ pub mod Weighing
 pub mod Tables
 pub mod Marching
 pub mod Nested
+pub mod Flagging
+pub mod Repairing
+pub mod Nearing
+pub mod Restoring

@@ -1,14 +1,14 @@
 -- Horner's rule, and what it comes to.
 use mathlib.Core.Path.{_≡_, refl, sym, ap, ap₂, _∙_}
-use mathlib.Core.Bool.{true}
+use mathlib.Core.Bool.{Bool, true, false, cond}
 use mathlib.Core.List.{List}
 use Prim.Native.Nat.{ℕ, zero, suc, _+_, _-_, _≤_, _<_}
 use native.Mathlib.Numerals.{add-one}
 use native.Mathlib.Omega.{arith}
-use lib.ListN.{length, getD, replicate}
-use Rattle.fields.specs.Rings.{RingOps, sum, power}
+use lib.ListN.{getD}
+use Rattle.fields.specs.Rings.{RingOps}
 use Rattle.algebra.specs.Polynomials.{times, product, turned}
-use Rattle.basics.specs.Lists.{Updated}
+use Rattle.algebra.specs.Recurrences.{at}
 use Rattle.algebra.proofs.Ring.{Solid}
 use Rattle.algebra.proofs.Solve.{mul-zero, zero-add}
 use Rattle.algebra.proofs.Poly.{turned-more, turned-first}
@@ -47,20 +47,22 @@ unfolding nested
 nested-more o x c j s e = rw (add-one j) (ap (λ t. o .add (o .mul x t) (c j)) e)
 
 -- the product of factors, coefficient by coefficient
-pub product-none : (o : RingOps) (p : ℕ → ℕ) (c : List ℕ) → getD c 0 0 ≡ 1 → ((j : ℕ) → 0 < j → getD c j 0 ≡ 0)
-    → (j : ℕ) → j < 65 → getD c j 0 ≡ product o 0 (λ _. true) p j
+pub product-none : (o : RingOps) (t : ℕ → Bool) (p : ℕ → ℕ) (c : List ℕ) → getD c 0 0 ≡ 1 → ((j : ℕ) → 0 < j → getD c j 0 ≡ 0)
+    → (j : ℕ) → j < 65 → getD c j 0 ≡ product o 0 t p j
 unfolding product
-product-none o p c e f zero h = e
-product-none o p c e f (suc j) h = f (suc j) (omega arith)
+product-none o t p c e f zero h = e
+product-none o t p c e f (suc j) h = f (suc j) (omega arith)
 
-product-at : (o : RingOps) (ps : List ℕ) (k : ℕ) (b : List ℕ) → ((j : ℕ) → j < 65 → getD b j 0 ≡ product o k (λ _. true) (λ i. getD ps i 0) j)
-    → (j : ℕ) → j < 65 → times o (getD ps k 0) (λ j. getD b j 0) j ≡ product o (k + 1) (λ _. true) (λ i. getD ps i 0) j
-unfolding times product
-product-at o ps k b e zero h = rw (add-one k) (e 0 h)
-product-at o ps k b e (suc j) h = rw (add-one k) (ap₂ (λ s t. o .add s (o .neg (o .mul (getD ps k 0) t))) (e (suc j) h) (e j (omega arith)))
+-- one more column
+pub product-step : (o : RingOps) (t : ℕ → Bool) (p : ℕ → ℕ) (k : ℕ) (b : List ℕ) → ((j : ℕ) → j < 65 → getD b j 0 ≡ product o k t p j)
+    → (j : ℕ) → j < 65 → cond (t k) (times o (p k) (at b)) (at b) j ≡ product o (k + 1) t p j
+unfolding product times
+product-step o t p k b e j h = rw (add-one k) (go (t k) j h)
+  where
+    factor : (j : ℕ) → j < 65 → times o (p k) (at b) j ≡ times o (p k) (product o k t p) j
+    factor zero h = e 0 h
+    factor (suc j) h = ap₂ (λ s u. o .add s (o .neg (o .mul (p k) u))) (e (suc j) h) (e j (omega arith))
 
-pub product-more : (o : RingOps) (ps : List ℕ) (k : ℕ) (b c : List ℕ)
-    → ((j : ℕ) → j < 65 → getD b j 0 ≡ product o k (λ _. true) (λ i. getD ps i 0) j)
-    → Updated 65 (times o (getD ps k 0) (λ j. getD b j 0)) (replicate 65 0) c
-    → (j : ℕ) → j < 65 → getD c j 0 ≡ product o (k + 1) (λ _. true) (λ i. getD ps i 0) j
-product-more o ps k b c e u j h = u .new j h (omega arith) ∙ product-at o ps k b e j h
+    go : (f : Bool) (j : ℕ) → j < 65 → cond f (times o (p k) (at b)) (at b) j ≡ cond f (times o (p k) (product o k t p)) (product o k t p) j
+    go true j h = factor j h
+    go false j h = e j h

@@ -1,12 +1,11 @@
 -- The table by which columns are filled, from the steps that make it.
-use mathlib.Core.Path.{_≡_, refl, sym, ap, ap₂, _∙_, subst}
+use mathlib.Core.Path.{_≡_, refl, ap, ap₂, _∙_}
 use mathlib.Core.Bool.{Bool, true, cond}
 use mathlib.Core.List.{List}
 use Prim.Native.Nat.{ℕ, zero, suc, _+_, _-_, _≤_, _<_}
 use native.Mathlib.Numerals.{add-one}
 use native.Mathlib.Omega.{arith}
-use lib.ListN.{length, getD, replicate}
-use Rattle.basics.specs.Lists.{Updated}
+use lib.ListN.{getD}
 use Rattle.fields.specs.Rings.{RingOps, entry}
 use Rattle.algebra.specs.Polynomials.{times, product, turned, quotient, gamma, weight, filler}
 use Rattle.algebra.proofs.Ring.{Solid}
@@ -20,6 +19,12 @@ unfolding product
 product-same o zero t p s e = refl
 product-same o (suc n) t p s e =
     ap₂ (λ (a : ℕ) (c : ℕ → ℕ). cond (t n) (times o a c) c) (e n (omega arith)) (product-same o n t p s (λ k h. e k (omega arith)))
+
+pub product-tests : (o : RingOps) (n : ℕ) (t u : ℕ → Bool) (p : ℕ → ℕ) → ((k : ℕ) → k < n → t k ≡ u k) → product o n t p ≡ product o n u p
+unfolding product
+product-tests o zero t u p e = refl
+product-tests o (suc n) t u p e =
+    ap₂ (λ (b : Bool) (c : ℕ → ℕ). cond b (times o (p n) c) c) (e n (omega arith)) (product-tests o n t u p (λ k h. e k (omega arith)))
 
 -- what is made on the way, for r columns whose points are p: the points, their locator, its quotients, the quotients' values, weights
 pub record Steps (o : RingOps) (inv : ℕ → ℕ) (r : ℕ) (p : ℕ → ℕ) (points locator values weights : List ℕ) (quotients table : List (List ℕ)) : Type 0 where

@@ -1,15 +1,15 @@
 -- Which rows can be filled, and what filling leaves.
 use mathlib.Core.Path.{_≡_}
-use mathlib.Core.Bool.{Bool, true, false, not, _||_}
+use mathlib.Core.Bool.{true, cond, not, _||_}
 use mathlib.Core.List.{List}
-use Prim.Native.Nat.{ℕ, zero, suc, _+_, _-_, _*_, _/_, _%_, _≤_, _<_, min}
+use Prim.Native.Nat.{ℕ, zero, suc, _+_, _-_, _*_, _%_, _≤_, _<_, min}
 use lib.Dec.{ltb, eqb}
 use lib.ListN.{length, getD, take, drop}
 use Rattle.std.specs.declared.option.Option.{Option}
 use Rattle.basics.specs.Checks.{check, _or-else_}
 use Rattle.basics.specs.Lists.{rowOf}
-use Rattle.fields.specs.Rings.{RingOps, FieldOps, power, entry}
-use Rattle.algebra.specs.Rows.{rising, Filled}
+use Rattle.fields.specs.Rings.{RingOps, FieldOps, taken, power, entry}
+use Rattle.algebra.specs.Rows.{rising, among, Filled}
 use Rattle.algebra.specs.Polynomials.{filler}
 use Rattle.codes.specs.declared.fill.FillFault.{FillFault}
 use Rattle.codes.specs.declared.fill.FillFault.the-variants.{Width, Columns, Length}
@@ -58,6 +58,11 @@ pub record Placed (n : ℕ) (ms vs xs ys : List ℕ) : Type 0 where
   pub long : length ys ≡ length xs
   pub at : (k : ℕ) → k < n → getD ys (getD ms k 0) 0 ≡ getD vs k 0
   pub off : (i : ℕ) → ((k : ℕ) → k < n → getD ms k 0 ≡ i → ⊥) → getD ys i 0 ≡ getD xs i 0
+
+-- the row holds the n symbols of xs from place s on, with 0 in place of those of the order q or above, and in the columns ms
+pub record Copied (q n : ℕ) (ms : List ℕ) (s : ℕ) (xs row : List ℕ) : Type 0 where
+  pub long : length row ≡ 256
+  pub is : (k : ℕ) → k < n → getD row k 0 ≡ cond (among k ms) 0 (taken q (getD xs (s + k) 0))
 
 -- ys is xs with the first n of vs from place s on
 pub record Stored (s n : ℕ) (vs xs ys : List ℕ) : Type 0 where

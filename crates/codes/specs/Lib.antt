@@ -1,2 +1,3 @@
 pub mod Poly
 pub mod Fill
+pub mod Correct

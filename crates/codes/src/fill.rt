@@ -1,17 +1,23 @@
 // Filling: given rows and as many columns as there are checks, the code rows that agree with them in all other columns.
 ghost use mathlib.Core.Path.{_≡_};
-ghost use mathlib.Core.Bool.{true, cond};
-ghost use mathlib.Core.List.{List};
-ghost use Prim.Native.Nat.{ℕ, suc, _+_, _-_, _*_, _/_, _≤_, _<_};
-ghost use lib.ListN.{length, getD, take, drop, replicate};
+ghost use mathlib.Core.Bool.{true};
+ghost use Prim.Native.Nat.{ℕ, _+_, _-_, _*_, _/_, _≤_, _<_};
+ghost use lib.ListN.{length, getD, replicate};
 ghost use Rattle.std.specs.Results.{Cases};
 ghost use Rattle.std.specs.Vec.{made};
 ghost use Rattle.basics.specs.Checks.{verdict};
-ghost use Rattle.basics.specs.Lists.{Updated, rowOf};
-ghost use Rattle.fields.specs.Rings.{RingOps, FieldOps, Inverses, Points, taken, power, entry};
-ghost use Rattle.algebra.specs.Rows.{rising, among, Filled};
-ghost use Rattle.algebra.specs.Polynomials.{times, product};
-ghost use Rattle.codes.specs.Fill.{fillFault, Fits, FitsRow, FilledAt, Tabled, powerOf, fillerOf, Placed, Stored, FilledRows, nested};
+ghost use Rattle.basics.specs.Lists.{Updated};
+ghost use Rattle.fields.specs.Rings.{Inverses, Points, entry};
+ghost use Rattle.algebra.specs.Polynomials.{product};
+ghost use Rattle.codes.specs.Fill.{fillFault, Fits, FitsRow, FilledAt, Tabled, powerOf, fillerOf, FilledRows, nested};
+use crate::poly::one;
+use crate::poly::times_factor;
+use crate::rows::cleared;
+use crate::rows::place;
+use crate::rows::power_table;
+use crate::rows::rises;
+use crate::rows::rules;
+use crate::rows::store;
 use fields::Field;
 use fields::LANES;
 use fields::Lanes;
@@ -36,21 +42,6 @@ struct Tables {
     fillers: [Lanes; 64],
 }
 
-// Whether the columns rise, each below the width.
-fn rises(columns: &[u16], width: usize) -> bool
-    ensures { λ r. ⌜ r ≡ rising 0 width (now (columns .entry)) ⌝ }
-{
-    let mut least = 0;
-    for column in columns {
-        let column = *column as usize;
-        if column < least || column >= width {
-            return false;
-        }
-        least = column + 1;
-    }
-    true
-}
-
 // What stands against filling.
 fn check(order: u16, width: usize, columns: &[u16], size: usize) -> Result<(), FillFault>
     ensures fault { λ r. ⌜ r ≡ verdict (fillFault order width (now (columns .entry)) size) ⌝ }
@@ -68,32 +59,6 @@ fn check(order: u16, width: usize, columns: &[u16], size: usize) -> Result<(), F
     Ok(())
 }
 
-// The powers 1 to `count` of a.
-fn powers_of<R: Ring>(ring: &R, a: u16, count: usize) -> Lanes
-    requires { ⌜ count ≤ 64 ⌝ }
-    ensures { λ r. ⌜ Updated count (λ j. power (R·Ring .ops (now (ring .entry))) a (j + 1)) (replicate 64 0) r ⌝ }
-{
-    let mut powers = [0; LANES];
-    let mut last = 1;
-    for j in 0..count {
-        last = ring.mul(a, last);
-        powers[j] = last;
-    }
-    powers
-}
-
-// The powers of the points of the columns below the width.
-fn power_table<F: Field>(field: &F, width: usize, count: usize) -> [Lanes; 256]
-    requires { ⌜ width ≤ 256 ⌝ ∗ ⌜ count ≤ 64 ⌝ }
-    ensures { λ r. ⌜ Tabled width count (powerOf (F·Ring .ops (now (field .entry))) (F·Field .points (now (field .entry)))) r ⌝ }
-{
-    let mut table = [[0; LANES]; 256];
-    for i in 0..width {
-        table[i] = powers_of(field, field.point(i as u16), count);
-    }
-    table
-}
-
 // The points of the given columns.
 fn points_of<F: Field>(field: &F, columns: &[u16]) -> Lanes
     requires { ⌜ length (now columns) ≤ 64 ⌝ }
@@ -104,39 +69,6 @@ fn points_of<F: Field>(field: &F, columns: &[u16]) -> Lanes
         points[k] = field.point(columns[k]);
     }
     points
-}
-
-// The polynomial 1.
-fn one() -> [u16; 65]
-    ensures constant { λ r. ⌜ getD r 0 0 ≡ 1 ⌝ }
-    ensures rest { λ r. ⌜ ((j : ℕ) → 0 < j → getD r j 0 ≡ 0) ⌝ }
-{
-    let mut r = [0; 65];
-    r[0] = 1;
-    r
-}
-
-// Coefficient j of c × (1 − a z).
-fn times_at<R: Ring>(ring: &R, a: u16, c: &[u16; 65], j: usize) -> u16
-    requires { ⌜ j < 65 ⌝ }
-    ensures { λ r. ⌜ r ≡ times (R·Ring .ops (now (ring .entry))) a (λ i. getD (now (c .entry)) i 0) j ⌝ }
-{
-    if j == 0 {
-        c[0]
-    } else {
-        ring.add(c[j], ring.neg(ring.mul(a, c[j - 1])))
-    }
-}
-
-// c × (1 − a z).
-fn times_factor<R: Ring>(ring: &R, a: u16, c: &[u16; 65]) -> [u16; 65]
-    ensures { λ r. ⌜ Updated 65 (times (R·Ring .ops (now (ring .entry))) a (λ i. getD (now (c .entry)) i 0)) (replicate 65 0) r ⌝ }
-{
-    let mut product = [0; 65];
-    for j in 0..65usize {
-        product[j] = times_at(ring, a, c, j);
-    }
-    product
 }
 
 // The product of 1 − a z over the first `count` points a.
@@ -250,45 +182,6 @@ fn fill_table<F: Field>(field: &F, columns: &[u16]) -> [Lanes; 64]
     weighted(field, &weights, &quotients, count)
 }
 
-// a, or 0 where it is the order or above.
-fn reduced(order: u16, a: u16) -> u16
-    ensures { λ r. ⌜ r ≡ taken order a ⌝ }
-{
-    if a < order { a } else { 0 }
-}
-
-// The row of `width` symbols from `start` on.
-fn load(rows: &[u16], start: usize, width: usize, order: u16) -> [u16; 256]
-    requires { ⌜ start + width ≤ length (now rows) ⌝ ∗ ⌜ width ≤ 256 ⌝ }
-    ensures { λ r. ⌜ Updated width (λ i. taken order (getD (now (rows .entry)) (start + i) 0)) (replicate 256 0) r ⌝ }
-{
-    let mut row = [0; 256];
-    for i in 0..width {
-        row[i] = reduced(order, rows[start + i]);
-    }
-    row
-}
-
-// Sets the given columns of a row to the given values.
-fn place(row: &mut [u16; 256], columns: &[u16], values: &Lanes)
-    requires { ⌜ rising 0 256 (now columns) ≡ true ⌝ ∗ ⌜ length (now columns) ≤ 64 ⌝ }
-    ensures { λ _. ⌜ Placed (length (now (columns .entry))) (now (columns .entry)) (now (values .entry)) (now (row .entry)) (now (row .exit)) ⌝ }
-{
-    for k in 0..columns.len() {
-        row[columns[k] as usize] = values[k];
-    }
-}
-
-// Writes the row back.
-fn store(rows: &mut [u16], start: usize, row: &[u16; 256], width: usize)
-    requires { ⌜ start + width ≤ length (now rows) ⌝ ∗ ⌜ width ≤ 256 ⌝ }
-    ensures { λ _. ⌜ Stored start width (now (row .entry)) (now (rows .entry)) (now (rows .exit)) ⌝ }
-{
-    for i in 0..width {
-        rows[start + i] = row[i];
-    }
-}
-
 // Fills the row from `start` on.
 fn fill_row<F: Field>(
     field: &F,
@@ -307,21 +200,11 @@ fn fill_row<F: Field>(
     ensures { λ _. ⌜ FilledAt (record { ring = F·Ring .ops (now (field .entry)); point = F·Field .points (now (field .entry)) }) width (now (columns .entry)) start (now (rows .entry)) (now (rows .exit)) ⌝ }
 {
     let checks = columns.len();
-    let mut row = load(rows, start, width, field.order());
-    place(&mut row, columns, &[0; LANES]);
+    let mut row = cleared(field, columns, rows, start, width);
     let syndromes = field.combine(&row[0..width], &tables.powers, checks);
     let values = field.combine(&syndromes[0..checks], &tables.fillers, checks);
     place(&mut row, columns, &values);
     store(rows, start, &row, width);
-}
-
-// The rules of inverses and points, which the field's functions promise of every element.
-fn rules<F: Field>(field: &F)
-    ensures inverses { λ _. ⌜ Inverses (F·Ring .ops (now (field .entry))) (F·Field .inv (now (field .entry))) ⌝ }
-    ensures points { λ _. ⌜ Points (F·Ring .ops (now (field .entry))) (F·Field .points (now (field .entry))) ⌝ }
-{
-    let _ = field.inverse(1);
-    let _ = field.point(0);
 }
 
 // Fills the given columns of every row of `width` symbols: each row becomes the one code row, with as many checks as there

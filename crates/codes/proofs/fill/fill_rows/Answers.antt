@@ -1,4 +1,4 @@
-use mathlib.Core.Path.{sym, ap, _∙_, subst}
+use mathlib.Core.Path.{ap, _∙_, subst}
 use Prim.Native.Nat.{ℕ, _+_, _*_, _≤_}
 use native.Mathlib.Omega.{arith}
 use lib.ListN.{length}
@@ -8,10 +8,10 @@ use Rattle.codes.proofs.Rowing.{until-none, until-more, until-all, row-inside}
 use Rattle.codes.proofs.fill.fill_rows.Needs as need
 
 pub loop-k-holds : need.loop-k-holds
-loop-k-holds g c = until-none _ _ _ _
+loop-k-holds g c = until-none _ _ _
 
 pub loop-k-again : need.loop-k-again
-loop-k-again g c = until-more _ _ _ _ (c .loop-k .k) _ _ (c .loop-k .inv) (c .fill-row .ensures)
+loop-k-again g c = let a = c .fill-row .ensures in until-more _ _ _ (c .loop-k .k) _ _ (c .loop-k .inv) (record { long = a .long; row = a .row; before = a .before; after = a .after })
 
 pub mul-k : need.mul-k
 mul-k g c =
@@ -36,5 +36,5 @@ returns g c =
     let e = c .in-Continue-check .ensures tt in
     record {
       fault = e .fault ∙ ap (λ (q : ℕ). verdict (fillFault q (c .args .width) (c .args .columns .now) (length (c .args .rows .now)))) (c .order .ensures);
-      filled = until-all _ _ _ _ (c .loop-k .k) _ (e .fits .row .some) (c .loop-k-test .left) (c .loop-k .inv);
+      filled = record { long = c .loop-k .inv .long; rows = until-all _ _ _ (c .loop-k .k) _ (e .fits .row .some) (c .loop-k-test .left) (c .loop-k .inv) };
     }
