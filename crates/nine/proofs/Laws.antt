@@ -1,4 +1,4 @@
--- The field of order 9 meets the rules: one test over its elements, and one over its inverses.
+-- The field of order 9 meets the rules: one test over its elements, and two over its inverses.
 use mathlib.Core.Path.{_≡_, refl, sym, ap, _∙_}
 use Prim.Native.Nat.{ℕ, zero, suc, _≤_, _<_}
 use native.Mathlib.Omega.{arith}

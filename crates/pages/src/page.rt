@@ -10,7 +10,7 @@ ghost use Rattle.std.specs.Vec.{made};
 ghost use Rattle.basics.specs.Checks.{verdict, faultOf, _or-else_, lowest};
 ghost use Rattle.basics.specs.Lists.{Updated};
 ghost use Rattle.codes.specs.Fill.{FilledRows};
-ghost use Rattle.plans.specs.Orders.{orderFault, Ranges};
+ghost use Rattle.plans.specs.Orders.{orderFault, Ranges, toldOrder};
 ghost use Rattle.pages.specs.Pages.{q, cellCount, symbolCount};
 ghost use Rattle.pages.specs.Calls.{Step, event, numbersFault, handed, buffersFault, symbolFault, heightFault, fault, write as Write};
 ghost use Rattle.pages.specs.Views.{marking, over, state, buffers, answered, kindFault, FitsWrite, laidAt, levelAt};
@@ -39,6 +39,7 @@ impl<F: Field + Drop> Page<F> {
     // A page with no column marked, where its numbers fit its field.
     pub fn order(field: F, numbers: Numbers) -> Result<Page<F>, OrderFault>
         ensures fault { λ r. ⌜ faultOf r ≡ orderFault (F·Ring .ops field .order) numbers ⌝ }
+        ensures refusal { λ r. ⌜ toldOrder (faultOf r) ≡ toldOrder (orderFault (F·Ring .ops field .order) numbers) ⌝ }
         ensures page { λ r. ⌜ made r (λ page. (page .field ≡ field) × (page .plan .numbers ≡ numbers) × (marking (page .plan) ≡ [])) ⌝ }
     {
         numbers.check(field.order())?;
@@ -225,6 +226,7 @@ impl<F: Field + Drop> Page<F> {
 // A page over the field of a kind number.
 pub fn order_kind(kind: u16, numbers: Numbers) -> Result<Page<KindField>, OrderFault>
     ensures fault { λ r. ⌜ faultOf r ≡ kindFault kind numbers ⌝ }
+    ensures refusal { λ r. ⌜ toldOrder (faultOf r) ≡ toldOrder (kindFault kind numbers) ⌝ }
     ensures page { λ r. ⌜ made r (λ page. (page .field .kind ≡ kind) × (page .plan .numbers ≡ numbers) × (marking (page .plan) ≡ [])) ⌝ }
 {
     let field = KindField::of(kind)?;

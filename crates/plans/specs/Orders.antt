@@ -3,6 +3,7 @@ use mathlib.Core.Bool.{Bool, _||_}
 use Prim.Native.Nat.{ℕ, _-_, _*_, _≤_, _<_, min}
 use lib.Dec.{ltb}
 use Rattle.std.specs.declared.option.Option.{Option}
+use Rattle.std.specs.declared.option.Option.the-variants.{Some, None}
 use Rattle.basics.specs.Checks.{check, _or-else_}
 use Rattle.plans.specs.declared.numbers.Numbers.{Numbers}
 use Rattle.plans.specs.declared.fault.Refusal.{Refusal}
@@ -50,3 +51,8 @@ orderNumber Drift = 6
 
 abbrev pub orderRefusal : OrderFault → Refusal
 orderRefusal f = record { number = orderNumber f; first = 0; second = 0 }
+
+-- what a caller is told of an order: no refusal, or the refusal with its number
+abbrev pub toldOrder : Option OrderFault → Option Refusal
+toldOrder None = None
+toldOrder (Some f) = Some (orderRefusal f)
