@@ -171,12 +171,12 @@ fn times_syndromes<R: Ring>(ring: &R, c: &[u16; 65], syndromes: &Lanes, checks: 
     product
 }
 
-// a added to 0 as often as `count` says.
-fn multiple_of<R: Ring>(ring: &R, count: usize, a: u16) -> u16
-    ensures { λ r. ⌜ r ≡ multiple (R·Ring .ops (now (ring .entry))) count a ⌝ }
+// a, added as often as `often` says.
+fn multiple_of<R: Ring>(ring: &R, often: usize, a: u16) -> u16
+    ensures { λ r. ⌜ r ≡ multiple (R·Ring .ops (now (ring .entry))) often a ⌝ }
 {
     let mut total = 0;
-    for j in 0..count {
+    for j in 0..often {
         total = ring.add(a, total);
     }
     total

@@ -14,4 +14,4 @@ unfolding multiple
 loop-j-again g c = rw (add-one (c .loop-j .j)) (c .add-total .ensures ∙ ap (g .R·Ring .ops (c .args .ring .now) .add (c .args .a)) (c .loop-j .inv))
 
 pub returns : need.returns
-returns g c = let e : c .loop-j .j ≡ c .args .count = omega arith in c .loop-j .inv ∙ ap (λ (n : ℕ). multiple (g .R·Ring .ops (c .args .ring .now)) n (c .args .a)) e
+returns g c = let e : c .loop-j .j ≡ c .args .often = omega arith in c .loop-j .inv ∙ ap (λ (n : ℕ). multiple (g .R·Ring .ops (c .args .ring .now)) n (c .args .a)) e
