@@ -71,6 +71,10 @@ module _ {F : Type 0} where
   lowest-same at on zero i h = refl
   lowest-same at on (suc m) i h = ap₂ (λ a b. a or-else b) (h i (omega arith) (omega arith)) (lowest-same at on m (i + 1) (λ k a b. h k (omega arith) (omega arith)))
 
+  -- the first passes
+  pub first-passes : (a b : Option F) → a ≡ None → (a or-else b) ≡ b
+  first-passes a b e = ap (λ x. x or-else b) e
+
   -- the last of several checks decides where the others pass
   pub others-pass : (a b c : Option F) → a ≡ None → b ≡ None → (a or-else b or-else c) ≡ c
   others-pass a b c e f = ap₂ (λ x y. x or-else y or-else c) e f
@@ -82,3 +86,15 @@ module _ {F : Type 0} where
       at : (o : Option F) → (o ≡ None → P) → made (verdict o) (λ _. P)
       at None f = f refl
       at (Some _) f = tt
+
+  -- the lowest place that fails
+  pub lowest-found : (at : ℕ → Option F) (m i : ℕ) (f : F) → lowest i m at ≡ Some f → (k : ℕ) × (i ≤ k) × (k < i + m) × (at k ≡ Some f) × ((j : ℕ) → i ≤ j → j < k → at j ≡ None)
+  lowest-found at zero i f e = let z : _≡_ {A = ℕ} 0 1 = cc in absurd (omega arith)
+  lowest-found at (suc m) i f e = on (at i) refl (lowest-found at m (i + 1) f)
+    where
+      on : (o : Option F) → at i ≡ o → (lowest (i + 1) m at ≡ Some f → (k : ℕ) × (i + 1 ≤ k) × (k < i + 1 + m) × (at k ≡ Some f) × ((j : ℕ) → i + 1 ≤ j → j < k → at j ≡ None))
+          → (k : ℕ) × (i ≤ k) × (k < i + suc m) × (at k ≡ Some f) × ((j : ℕ) → i ≤ j → j < k → at j ≡ None)
+      on (Some g) h again = (i, omega arith, omega arith, h ∙ sym (some-first (at i) (lowest (i + 1) m at) g h) ∙ e, λ j a b. absurd (omega arith))
+      on None h again =
+          let (k, a, b, c, d) = again (sym (first-passes (at i) (lowest (i + 1) m at) h) ∙ e) in
+          (k, omega arith, omega arith, c, λ j x y. elim (cases-lt i j) [ inl l ↦ d j (omega arith) y | inr l ↦ let z : j ≡ i = omega arith in ap at z ∙ h ])

@@ -5,10 +5,11 @@ use mathlib.Core.List.{List}
 use Prim.Native.Nat.{ℕ, zero, suc, _+_, _-_, _≤_, _<_}
 use native.Mathlib.Numerals.{add-one}
 use native.Mathlib.Omega.{arith}
-use lib.ListN.{getD}
+use lib.ListN.{getD, replicate}
 use Rattle.fields.specs.Rings.{RingOps}
 use Rattle.algebra.specs.Polynomials.{times, product, turned}
 use Rattle.algebra.specs.Recurrences.{at}
+use Rattle.basics.specs.Lists.{Updated}
 use Rattle.algebra.proofs.Ring.{Solid}
 use Rattle.algebra.proofs.Solve.{mul-zero, zero-add}
 use Rattle.algebra.proofs.Poly.{turned-more, turned-first}
@@ -53,8 +54,8 @@ unfolding product
 product-none o t p c e f zero h = e
 product-none o t p c e f (suc j) h = f (suc j) (omega arith)
 
--- one more column
-pub product-step : (o : RingOps) (t : ℕ → Bool) (p : ℕ → ℕ) (k : ℕ) (b : List ℕ) → ((j : ℕ) → j < 65 → getD b j 0 ≡ product o k t p j)
+-- one more column, with its factor or without
+product-step : (o : RingOps) (t : ℕ → Bool) (p : ℕ → ℕ) (k : ℕ) (b : List ℕ) → ((j : ℕ) → j < 65 → getD b j 0 ≡ product o k t p j)
     → (j : ℕ) → j < 65 → cond (t k) (times o (p k) (at b)) (at b) j ≡ product o (k + 1) t p j
 unfolding product times
 product-step o t p k b e j h = rw (add-one k) (go (t k) j h)
@@ -66,3 +67,13 @@ product-step o t p k b e j h = rw (add-one k) (go (t k) j h)
     go : (f : Bool) (j : ℕ) → j < 65 → cond f (times o (p k) (at b)) (at b) j ≡ cond f (times o (p k) (product o k t p)) (product o k t p) j
     go true j h = factor j h
     go false j h = e j h
+
+pub product-more : (o : RingOps) (t : ℕ → Bool) (p : ℕ → ℕ) (k a : ℕ) (b c : List ℕ) → t k ≡ true → a ≡ p k → ((j : ℕ) → j < 65 → getD b j 0 ≡ product o k t p j)
+    → Updated 65 (times o a (at b)) (replicate 65 0) c → (j : ℕ) → j < 65 → getD c j 0 ≡ product o (k + 1) t p j
+product-more o t p k a b c on i e u j h =
+    u .new j h (omega arith) ∙ ap (λ (x : ℕ). times o x (at b) j) i
+    ∙ sym (ap (λ (f : Bool). cond f (times o (p k) (at b)) (at b) j) on) ∙ product-step o t p k b e j h
+
+pub product-kept : (o : RingOps) (t : ℕ → Bool) (p : ℕ → ℕ) (k : ℕ) (b : List ℕ) → t k ≡ false → ((j : ℕ) → j < 65 → getD b j 0 ≡ product o k t p j)
+    → (j : ℕ) → j < 65 → getD b j 0 ≡ product o (k + 1) t p j
+product-kept o t p k b off e j h = sym (ap (λ (f : Bool). cond f (times o (p k) (at b)) (at b) j) off) ∙ product-step o t p k b e j h

@@ -12,7 +12,7 @@ ghost use Rattle.std.specs.Vec.{made};
 ghost use Rattle.basics.specs.Checks.{verdict};
 ghost use Rattle.basics.specs.Lists.{Updated};
 ghost use Rattle.algebra.specs.Rows.{among, count, CloseRow};
-ghost use Rattle.algebra.specs.Polynomials.{times, product, multiple, derivative};
+ghost use Rattle.algebra.specs.Polynomials.{product, multiple, derivative};
 ghost use Rattle.algebra.specs.Recurrences.{at, Shortest};
 ghost use Rattle.codes.specs.Poly.{productAt, valueAt};
 ghost use Rattle.codes.specs.Fill.{Tabled, powerOf};
@@ -125,7 +125,7 @@ fn is_marked(marked: &[u16], column: usize) -> bool
 }
 
 // The marked columns, as flags.
-fn flags(marked: &[u16]) -> [bool; 256]
+pub fn flags(marked: &[u16]) -> [bool; 256]
     ensures { λ r. ⌜ Flagged 256 (λ k. among k (now (marked .entry))) r ⌝ }
 {
     let mut flags = [false; 256];
@@ -135,18 +135,6 @@ fn flags(marked: &[u16]) -> [bool; 256]
     flags
 }
 
-// The polynomial c, times 1 − a z where the column with the point a is flagged.
-fn factored<F: Field>(field: &F, column: usize, flag: bool, c: &[u16; 65]) -> [u16; 65]
-    requires { ⌜ column < 256 ⌝ }
-    ensures { λ r. ⌜ ((j : ℕ) → j < 65 → getD r j 0 ≡ cond flag (times (F·Ring .ops (now (field .entry))) (F·Field .points (now (field .entry)) column) (at (now (c .entry)))) (at (now (c .entry))) j) ⌝ }
-{
-    if flag {
-        times_factor(field, field.point(column as u16), c)
-    } else {
-        *c
-    }
-}
-
 // The product of 1 − a z over the points a of the flagged columns.
 fn locator<F: Field>(field: &F, columns: &[bool; 256], width: usize) -> [u16; 65]
     requires { ⌜ width ≤ 256 ⌝ }
@@ -154,7 +142,9 @@ fn locator<F: Field>(field: &F, columns: &[bool; 256], width: usize) -> [u16; 65
 {
     let mut locator = one();
     for k in 0..width {
-        locator = factored(field, k, columns[k], &locator);
+        if columns[k] {
+            locator = times_factor(field, field.point(k as u16), &locator);
+        }
     }
     locator
 }

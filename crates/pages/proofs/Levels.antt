@@ -66,6 +66,10 @@ module _ (p : Setup) (g : Ranges (q p) (p .numbers)) where
   pub message-inside : (i : ℕ) → i < cellCount p → r p ≤ i % n p → i / n p * (n p - r p) + (i % n p - r p) < symbolCount p
   message-inside i h a = symbol-in (i / n p) (i % n p) (row-in i h) a (column-in i)
 
+  -- the cell of a message symbol stands on the page
+  pub cell-inside : (j : ℕ) → j < symbolCount p → cellOf p j < cellCount p
+  cell-inside j h = digits-lt {q = messageRow p j} {m = p .numbers .rows} {r = messageColumn p j} {c = n p} (symbol-row j h) (symbol-column j)
+
 -- height and symbol of a level
 pub level-height : (q h s : ℕ) → s < q → (h * q + s) / q ≡ h
 level-height q h s b = digits-div h {m = q} {r = s} b

@@ -2,3 +2,9 @@ pub mod Fitting
 pub mod Levels
 pub mod Firsts
 pub mod Writing
+pub mod Drifts
+pub mod Correcting
+pub mod Settling
+pub mod Decoding
+pub mod Reaching
+pub mod Reading

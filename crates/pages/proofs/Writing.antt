@@ -32,7 +32,7 @@ pub record Steps (p : Setup) (b : Buffers) (cells laid filled levels : List ℕ)
   pub adds : Updated (length filled) (levelAt (q p) (b .heights) filled) filled levels
 
 -- a row of a page ends within it
-row-fits : (p : Setup) (k : ℕ) → k < p .numbers .rows → k * n p + n p ≤ cellCount p
+pub row-fits : (p : Setup) (k : ℕ) → k < p .numbers .rows → k * n p + n p ≤ cellCount p
 row-fits p k h = omega (arith, mul-le (k + 1) (n p) (p .numbers .rows) (n p) (omega arith) (omega arith), add-mul k 1 (n p))
 
 module _ (p : Setup) (g : Ranges (q p) (p .numbers)) (laid filled : List ℕ) (long : length laid ≡ cellCount p)

@@ -28,6 +28,14 @@ pub enum PageFault {
     Symbol(u16, u16),
     // a height of the page's heights or above
     Height(u16, u16),
+    // an unmarked reading above the highest level
+    Reading(u16, u16),
+    // no code row is close enough to this row's symbols
+    Lost(u16),
+    // a drift above the bound
+    Far(u16, u16),
+    // a drift above the reading
+    Under(u16, u16),
 }
 
 pub impl From<OrderFault> for PageFault as PageFaultFromOrder {
@@ -49,6 +57,10 @@ pub impl Refuses for PageFault as PageFaultRefuses {
             PageFault::Length(Buffer::Heights) => refusal_of(11, 3, 0),
             PageFault::Symbol(row, column) => refusal_of(12, *row, *column),
             PageFault::Height(row, column) => refusal_of(13, *row, *column),
+            PageFault::Reading(row, column) => refusal_of(21, *row, *column),
+            PageFault::Lost(row) => refusal_of(22, *row, 0),
+            PageFault::Far(row, column) => refusal_of(23, *row, *column),
+            PageFault::Under(row, column) => refusal_of(24, *row, *column),
         }
     }
 }

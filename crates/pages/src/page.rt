@@ -31,8 +31,8 @@ use plans::plan::Plan;
 // A page holds its field, and beside it its numbers and its marking.
 #[derive(Drop)]
 pub struct Page<F> {
-    field: F,
-    plan: Plan,
+    pub(crate) field: F,
+    pub(crate) plan: Plan,
 }
 
 impl<F: Field + Drop> Page<F> {
@@ -59,7 +59,7 @@ impl<F: Field + Drop> Page<F> {
     }
 
     // What stands against a call on all cells: the page and their length.
-    fn check_cells(&self, cells: &[u16]) -> Result<(), PageFault>
+    pub(crate) fn check_cells(&self, cells: &[u16]) -> Result<(), PageFault>
         ensures fault { λ r. ⌜ r ≡ verdict (handed (over (F·Ring .ops) (F·Field .points) (now (self .entry))) (state (now (self .entry) .plan) (now (cells .entry)))) ⌝ }
         ensures size { λ r. ⌜ made r (λ _. length (now (cells .entry)) ≡ cellCount (over (F·Ring .ops) (F·Field .points) (now (self .entry)))) ⌝ }
         ensures ranges { λ r. ⌜ made r (λ _. Ranges (F·Ring .ops (now (self .entry) .field) .order) (now (self .entry) .plan .numbers)) ⌝ }
@@ -73,7 +73,7 @@ impl<F: Field + Drop> Page<F> {
     }
 
     // Buffers of symbols and heights of other lengths than the page asks.
-    fn check_buffers(&self, symbols: &[u16], heights: &[u16]) -> Result<(), PageFault>
+    pub(crate) fn check_buffers(&self, symbols: &[u16], heights: &[u16]) -> Result<(), PageFault>
         requires { ⌜ Ranges (F·Ring .ops (now self .field) .order) (now self .plan .numbers) ⌝ }
         ensures fault { λ r. ⌜ r ≡ verdict (buffersFault (over (F·Ring .ops) (F·Field .points) (now (self .entry))) (buffers (now (symbols .entry)) (now (heights .entry)))) ⌝ }
         ensures sizes { λ r. ⌜ made r (λ _. (length (now (symbols .entry)) ≡ symbolCount (over (F·Ring .ops) (F·Field .points) (now (self .entry)))) × (length (now (heights .entry)) ≡ cellCount (over (F·Ring .ops) (F·Field .points) (now (self .entry))))) ⌝ }

@@ -35,4 +35,11 @@ impl Plan {
     {
         self.numbers
     }
+
+    // The marked columns.
+    pub fn marking(&self) -> &[u16]
+        ensures { λ r. ⌜ now r ≡ take (now (self .entry) .count) (now (self .entry) .marked) ⌝ }
+    {
+        &self.marked[0..self.count]
+    }
 }
