@@ -60,7 +60,7 @@ def main():
     parser.add_argument("scripts", nargs="*")
     parser.add_argument("--seeds", nargs=2, type=int, metavar=("FIRST", "LAST"))
     parser.add_argument("--count", type=int, default=500)
-    parser.add_argument("--all", action="store_true", help="mark, raise, jolt, read and scrub too")
+    parser.add_argument("--all", action="store_true", help="mark, raise, jolt and scrub too")
     options = parser.parse_args()
     found = [differs(options.program, name, script) for name, script in scripts(options)]
     sys.exit(any(found))

@@ -5,8 +5,10 @@
 
 It has COUNT lines, each a command or, now and then, a line that is none; the same seed gives the same script.
 Orders go through the seven kinds in turn, with numbers at the edges of what is allowed and just beyond. Most writes have
-buffers that fit; some are one too long or too short, or hold a symbol or a height that is too large.
-With --all the script also marks, raises, jolts, reads and scrubs.
+buffers that fit; some are one too long or too short, or hold a symbol or a height that is too large. Readings are set at
+random, or as a page that was written with cells that have drifted: by no more than the page allows and in no more
+columns than it corrects, or just beyond; most of these are read in the next line.
+With --all the script also marks, raises, jolts and scrubs.
 """
 
 import argparse
@@ -37,9 +39,19 @@ BAD_LINES = [
     "write 1 0/2 0 14 3",
     "write 1 x / 2 0 14 3",
     "write / / ",
+    "read 1",
+    "read 1 2 3",
+    "read 2 x",
+    "read x 4",
+    "read 2 65536",
+    "read 2 / 4",
+    "reads",
     "/",
     "7",
 ]
+
+# For want of a page each of these is an error.
+UNORDERED = ["cells", "cells 1", "write 1 / 0 0", "read", "read 2 4"]
 
 
 class Script:
@@ -50,6 +62,7 @@ class Script:
         self.page = None  # kind, columns, checks, rows, heights, drift
         self.fitting = False  # whether the cells have the page's length
         self.marks = 0
+        self.near = False  # whether drifted readings were set and are still to be read
 
     def chance(self, percent):
         return self.random.randrange(100) < percent
@@ -71,7 +84,8 @@ class Script:
         checks = self.random.randint(1, min(most, 12))
         if self.chance(25):
             checks = self.pick(1, most)
-        rows = self.random.randint(1, 4)
+        # the reference is slow to read wide rows
+        rows = self.random.randint(1, 4 if columns <= 64 else 2)
         if columns <= 8 and self.chance(15):
             rows = self.pick(31, 32)
         highest = min(256, 4096 // order)
@@ -190,22 +204,53 @@ class Script:
 
     def read(self):
         _, columns, checks, rows, _, _ = self.page
-        if self.chance(70):
+        fitting = [rows * (columns - checks), rows * columns]
+        if self.chance(75):
             return "read"
-        return f"read {rows * (columns - checks) + self.chance(20)} {rows * columns + self.chance(20)}"
+        if self.chance(50):
+            return "read " + self.numbers(fitting)
+        return "read " + self.numbers([self.pick(most, most + 1, most - 1, 0, 65535) for most in fitting])
+
+    def risen(self, level):
+        """A reading that has drifted up within the page's bound, where there is room above the level."""
+        kind, _, _, _, heights, drift = self.page
+        room = min(drift, ORDERS[kind] * heights - 1 - level)
+        return level + self.pick(1, room, self.random.randint(1, room)) if room > 0 else level
+
+    def astray(self, level):
+        """A reading that has drifted too far, has fallen, or is no level."""
+        kind, _, _, _, heights, drift = self.page
+        order = ORDERS[kind]
+        far = self.random.randint(min(drift + 1, order - 1), order - 1)
+        # a fall after which the cell seems to have risen within the bound, from a level below 0 where its own is low
+        deep = order - self.random.randint(min(max(order - level, 1), drift), drift)
+        by = self.pick(drift + 1, far, -1, -deep, -deep, -deep, -self.random.randint(1, order))
+        return self.pick(order * heights, 65535) if self.chance(15) else max(level + by, 0)
+
+    def drift_row(self, cells, row, tame):
+        """Moves cells of a row: where it is tame as many as can be corrected at most, else one more or one astray."""
+        _, columns, checks, _, _, _ = self.page
+        most = checks // 2
+        count = self.pick(0, min(1, most), most, most)
+        if not tame:
+            count = self.pick(min(1, most), most, most, most + 1)
+        moved = self.random.sample(range(columns), min(count, columns))
+        for place, column in enumerate(moved):
+            at = row * columns + column
+            stays = tame or place > 0 or count > most
+            cells[at] = self.risen(cells[at]) if stays else self.astray(cells[at])
 
     def nearly(self):
-        """Cells of a page that was written, a few of them moved up or, seldom, down."""
-        kind, columns, checks, rows, heights, drift = self.page
+        """Readings of a page that was written, of which some have drifted."""
+        kind, columns, checks, rows, heights, _ = self.page
         page = Page(*self.page)
         cells = [0] * (rows * columns)
         tall = self.pick(1, heights)
         page.write(cells, self.values(rows * (columns - checks), ORDERS[kind]), self.values(rows * columns, tall))
-        for _ in range(self.pick(0, 1, 1, 2, checks // 2)):
-            at = self.random.randrange(len(cells))
-            by = self.pick(1, drift, -1, self.random.randint(1, ORDERS[kind] - 1))
-            cells[at] = max(cells[at] + by, 0)
-        self.fitting = True
+        wild = self.random.randrange(rows) if self.chance(55) else rows
+        for row in range(rows):
+            self.drift_row(cells, row, row != wild)
+        self.fitting = self.near = True
         return "cells " + self.numbers(cells)
 
     def later(self):
@@ -220,14 +265,17 @@ class Script:
 
     def command(self):
         if self.page is None or self.chance(4):
-            return self.order() if self.page is not None or self.chance(70) else self.pick("cells", "cells 1", "write 1 / 0 0")
+            return self.order() if self.page is not None or self.chance(70) else self.pick(*UNORDERED)
         if self.chance(5):
             return self.pick(*BAD_LINES)
+        if self.near and self.chance(90):
+            self.near = False
+            return self.read()
         if not self.fitting and self.chance(50):
             return self.order()
         if self.everything and self.chance(60):
             return self.later()
-        return self.pick(self.order, self.write, self.write, self.cells, self.cells)()
+        return self.pick(self.order, self.write, self.write, self.cells, self.cells, self.nearly, self.nearly, self.read)()
 
     def line(self):
         text = self.command()
@@ -242,7 +290,7 @@ def main():
     parser = argparse.ArgumentParser(description="Prints a random page script.")
     parser.add_argument("seed", type=int)
     parser.add_argument("count", type=int)
-    parser.add_argument("--all", action="store_true", help="mark, raise, jolt, read and scrub too")
+    parser.add_argument("--all", action="store_true", help="mark, raise, jolt and scrub too")
     options = parser.parse_args()
     script = Script(options.seed, options.all)
     for _ in range(options.count):

@@ -20,6 +20,8 @@ use std::fmt;
 #[derive(Drop)]
 pub struct Bench {
     held: Option<Page<KindField>>,
+    // the numbers of the page held, and zeros before there is one
+    numbers: Numbers,
     cells: Vec<u16>,
 }
 
@@ -30,6 +32,13 @@ pub enum Answer {
     Done,
     // the readings
     Cells(Vec<u16>),
+    // what the readings stand for, with how many cells drifted and how far in all
+    Contents {
+        drifted: u32,
+        risen: u32,
+        symbols: Vec<u16>,
+        heights: Vec<u16>,
+    },
     // the call was refused
     Refused(Refusal),
     // the line cannot be carried out
@@ -43,6 +52,17 @@ pub impl fmt::Display for Answer as AnswerDisplay {
             Answer::Cells(cells) => {
                 f.write_str("cells")?;
                 show_all(cells.as_slice(), f)
+            }
+            Answer::Contents {
+                drifted,
+                risen,
+                symbols,
+                heights,
+            } => {
+                write!(f, "ok {drifted} {risen} /")?;
+                show_all(symbols.as_slice(), f)?;
+                f.write_str(" /")?;
+                show_all(heights.as_slice(), f)
             }
             Answer::Refused(refusal) => {
                 let number = refusal.number;
@@ -68,6 +88,13 @@ impl Bench {
     pub fn new(heap: Global) -> Bench {
         Bench {
             held: None,
+            numbers: Numbers {
+                columns: 0,
+                checks: 0,
+                rows: 0,
+                heights: 0,
+                drift: 0,
+            },
             cells: Vec::new(heap),
         }
     }
@@ -108,6 +135,10 @@ impl Bench {
             Command::Write { symbols, heights } => {
                 self.write(symbols.as_slice(), heights.as_slice())
             }
+            Command::Read => self.read(heap),
+            Command::ReadInto { symbols, heights } => {
+                self.read_into(heap, symbols as usize, heights as usize)
+            }
         }
     }
 
@@ -118,6 +149,7 @@ impl Bench {
                 let count = numbers.rows as usize * numbers.columns as usize;
                 let cells = vec![in heap; 0; count]?;
                 self.held = Some(page);
+                self.numbers = numbers;
                 self.cells = cells;
                 Ok(Answer::Done)
             }
@@ -146,6 +178,42 @@ impl Bench {
         };
         match page.write(self.cells.as_mut_slice(), symbols, heights) {
             Ok(()) => Ok(Answer::Done),
+            Err(fault) => Ok(Answer::Refused(fault.refusal())),
+        }
+    }
+
+    // Reads into buffers of the lengths that the page asks.
+    fn read(&self, heap: Global) -> Result<Answer, LineFault> {
+        let rows = self.numbers.rows as usize;
+        let columns = self.numbers.columns as usize;
+        // an order that was accepted has fewer checks than columns
+        let messages = columns.saturating_sub(self.numbers.checks as usize);
+        self.read_into(heap, rows * messages, rows * columns)
+    }
+
+    // Reads into buffers of these lengths, of zeros.
+    fn read_into(
+        &self,
+        heap: Global,
+        symbol_count: usize,
+        height_count: usize,
+    ) -> Result<Answer, LineFault> {
+        let Some(page) = &self.held else {
+            return Err(LineFault::NoPage);
+        };
+        let mut symbols = vec![in heap; 0; symbol_count]?;
+        let mut heights = vec![in heap; 0; height_count]?;
+        match page.read(
+            self.cells.as_slice(),
+            symbols.as_mut_slice(),
+            heights.as_mut_slice(),
+        ) {
+            Ok((drifted, risen)) => Ok(Answer::Contents {
+                drifted,
+                risen,
+                symbols,
+                heights,
+            }),
             Err(fault) => Ok(Answer::Refused(fault.refusal())),
         }
     }

@@ -16,11 +16,11 @@ use Rattle.std.specs.declared.option.Option.the-variants.{Some}
 use Rattle.std.specs.declared.result.Result.{Result}
 use Rattle.std.specs.declared.result.Result.the-variants.{Ok, Err}
 use Rattle.scripts.specs.Script.{numberOf}
-use Rattle.scripts.specs.Commands.{texts, part, isSlash, SlashAt, AreNumbers, Begins, Named, BadNumber, Wrong, Read}
+use Rattle.scripts.specs.Commands.{texts, part, isSlash, SlashAt, AreNumbers, Begins, Named, BadNumber, Wrong, Understood}
 use Rattle.scripts.specs.declared.command.Command.{Command}
 use Rattle.scripts.specs.declared.command.Name.{Name}
 use Rattle.scripts.specs.declared.command.LineFault.{LineFault}
-use Rattle.scripts.specs.declared.command.LineFault.the-variants.{NoCommand, NoNumber, OrderForm, WriteForm, NoPage, NoMemory}
+use Rattle.scripts.specs.declared.command.LineFault.the-variants.{NoCommand, NoNumber, OrderForm, WriteForm, ReadForm, NoPage, NoMemory}
 
 pub length-texts : (ws : List (RefT (List ℕ))) → length (texts ws) ≡ length ws
 length-texts ws = length-map ws (λ w. w .now)
@@ -69,6 +69,13 @@ six (a ∷ b ∷ c ∷ d ∷ []) h = absurd (omega arith)
 six (a ∷ b ∷ c ∷ d ∷ e ∷ []) h = absurd (omega arith)
 six (a ∷ b ∷ c ∷ d ∷ e ∷ f ∷ g ∷ ns) h = absurd (omega arith)
 
+-- two numbers in a row
+pub two : (ns : List ℕ) → length ns ≡ 2 → getD ns 0 0 ∷ getD ns 1 0 ∷ [] ≡ ns
+two (a ∷ b ∷ []) h = refl
+two [] h = absurd (omega arith)
+two (a ∷ []) h = absurd (omega arith)
+two (a ∷ b ∷ c ∷ ns) h = absurd (omega arith)
+
 -- in a write, none of the words from place a up to place b is a slash
 abbrev Unslashed : List (List ℕ) → ℕ → ℕ → Type 0
 Unslashed ws a b = (k : ℕ) → a ≤ k → k < b → Begins ws (codes "write") → isSlash (getD ws k []) ≡ true → ⊥
@@ -83,13 +90,14 @@ bad-wrong ws a b NoCommand from within clean h = absurd h
 bad-wrong ws a b (NoNumber place) from within clean h = (omega arith, omega arith, h .2, clean (place - 1) (omega arith) (omega arith))
 bad-wrong ws a b OrderForm from within clean h = absurd h
 bad-wrong ws a b WriteForm from within clean h = absurd h
+bad-wrong ws a b ReadForm from within clean h = absurd h
 bad-wrong ws a b NoPage from within clean h = absurd h
 bad-wrong ws a b NoMemory from within clean h = tt
 
 -- which is then answered
-pub bad-read : (ws : List (RefT (List ℕ))) (a b : ℕ) (fault : LineFault) (r : Result Command LineFault) → ErrBy r (λ e. e ≡ fault) → 1 ≤ a → b ≤ length ws → Unslashed (texts ws) a b → BadNumber (texts ws) a b fault → Read (texts ws) r
-bad-read ws a b fault (Ok command) answered from within clean h = absurd answered
-bad-read ws a b fault (Err e) answered from within clean h = rw answered (bad-wrong (texts ws) a b fault from (omega (arith, length-texts ws)) clean h)
+pub bad-understood : (ws : List (RefT (List ℕ))) (a b : ℕ) (fault : LineFault) (r : Result Command LineFault) → ErrBy r (λ e. e ≡ fault) → 1 ≤ a → b ≤ length ws → Unslashed (texts ws) a b → BadNumber (texts ws) a b fault → Understood (texts ws) r
+bad-understood ws a b fault (Ok command) answered from within clean h = absurd answered
+bad-understood ws a b fault (Err e) answered from within clean h = rw answered (bad-wrong (texts ws) a b fault from (omega (arith, length-texts ws)) clean h)
 
 -- slashes, by what looking for the first one, in place p, and the next one, in place q, tells
 module _ (ws : List (List ℕ)) (p : ℕ) (from : 1 ≤ p) (before : (k : ℕ) → 1 ≤ k → k < p → isSlash (getD ws k []) ≡ true → ⊥) where

@@ -14,11 +14,11 @@ use Rattle.std.specs.declared.result.Result.{Result}
 use Rattle.std.specs.declared.result.Result.the-variants.{Ok, Err}
 use Rattle.scripts.specs.Script.{numberOf}
 use Rattle.scripts.specs.declared.command.Command.{Command}
-use Rattle.scripts.specs.declared.command.Command.the-variants.{Order, Cells, SetCells, Write}
+use Rattle.scripts.specs.declared.command.Command.the-variants.{Order, Cells, SetCells, Write, Read, ReadInto}
 use Rattle.scripts.specs.declared.command.Name.{Name}
 use Rattle.scripts.specs.declared.command.Name.the-variants as name
 use Rattle.scripts.specs.declared.command.LineFault.{LineFault}
-use Rattle.scripts.specs.declared.command.LineFault.the-variants.{NoCommand, NoNumber, OrderForm, WriteForm, NoPage, NoMemory}
+use Rattle.scripts.specs.declared.command.LineFault.the-variants.{NoCommand, NoNumber, OrderForm, WriteForm, ReadForm, NoPage, NoMemory}
 
 -- what lent words hold
 abbrev pub texts : List (RefT (List ℕ)) → List (List ℕ)
@@ -51,10 +51,11 @@ Begins ws name = (0 < length ws) × (getD ws 0 [] ≡ name)
 
 -- which command a word names
 abbrev pub Named : List ℕ → Option Name → Type 0
-Named w None = (w ≡ codes "order" → ⊥) × (w ≡ codes "cells" → ⊥) × (w ≡ codes "write" → ⊥)
+Named w None = (w ≡ codes "order" → ⊥) × (w ≡ codes "cells" → ⊥) × (w ≡ codes "write" → ⊥) × (w ≡ codes "read" → ⊥)
 Named w (Some name.Order) = w ≡ codes "order"
 Named w (Some name.Cells) = w ≡ codes "cells"
 Named w (Some name.Write) = w ≡ codes "write"
+Named w (Some name.Read) = w ≡ codes "read"
 
 -- the words of a line ask for this command
 abbrev pub Asks : List (List ℕ) → Command → Type 0
@@ -64,6 +65,8 @@ Asks ws (SetCells cells) = Begins ws (codes "cells") × (1 < length ws) × AreNu
 Asks ws (Write symbols heights) =
     Begins ws (codes "write")
     × ((p : ℕ) × SlashAt ws p × AreNumbers (part ws 1 p) (vec-items symbols) × AreNumbers (drop (p + 1) ws) (vec-items heights))
+Asks ws Read = Begins ws (codes "read") × (length ws ≡ 1)
+Asks ws (ReadInto symbols heights) = Begins ws (codes "read") × AreNumbers (drop 1 ws) (symbols ∷ heights ∷ [])
 
 -- one of the words from place a up to place b is no number, and the fault names it, counted from 1; or there was no memory
 abbrev pub BadNumber : List (List ℕ) → ℕ → ℕ → LineFault → Type 0
@@ -71,6 +74,7 @@ BadNumber ws a b NoCommand = ⊥
 BadNumber ws a b (NoNumber place) = (a < place) × (place ≤ b) × (numberOf (getD ws (place - 1) []) ≡ None)
 BadNumber ws a b OrderForm = ⊥
 BadNumber ws a b WriteForm = ⊥
+BadNumber ws a b ReadForm = ⊥
 BadNumber ws a b NoPage = ⊥
 BadNumber ws a b NoMemory = Unit {0}
 
@@ -84,13 +88,14 @@ Wrong ws (NoNumber place) =
     × (Begins ws (codes "write") → isSlash (getD ws (place - 1) []) ≡ true → ⊥)
 Wrong ws OrderForm = Begins ws (codes "order") × (length ws ≡ 7 → ⊥)
 Wrong ws WriteForm = Begins ws (codes "write") × ((p : ℕ) → SlashAt ws p → ⊥)
+Wrong ws ReadForm = Begins ws (codes "read") × (length ws ≡ 1 → ⊥) × (length ws ≡ 3 → ⊥)
 Wrong ws NoPage = ⊥
 Wrong ws NoMemory = Unit {0}
 
 -- what comes of the words of a line that has some
-abbrev pub Read : List (List ℕ) → Result Command LineFault → Type 0
-Read ws (Ok command) = Asks ws command
-Read ws (Err fault) = Wrong ws fault
+abbrev pub Understood : List (List ℕ) → Result Command LineFault → Type 0
+Understood ws (Ok command) = Asks ws command
+Understood ws (Err fault) = Wrong ws fault
 
 -- what comes of a line's words
 abbrev pub Parsed : List (List ℕ) → Result (Option Command) LineFault → Type 0

@@ -8,8 +8,8 @@ ghost use lib.ListN.{length, getD};
 ghost use Rattle.std.specs.Of.Vec.{vec-items};
 ghost use Rattle.std.specs.Results.{Cases};
 ghost use Rattle.scripts.specs.Script.{wordsOf};
-ghost use Rattle.scripts.specs.Commands.{texts, part, isSlash, AreNumbers, BadNumber, Begins, Named, Read, Parsed};
-ghost use Rattle.scripts.specs.declared.command.Command.the-variants.{Order};
+ghost use Rattle.scripts.specs.Commands.{texts, part, isSlash, AreNumbers, BadNumber, Begins, Named, Understood, Parsed};
+ghost use Rattle.scripts.specs.declared.command.Command.the-variants.{Order, ReadInto};
 ghost use Rattle.scripts.specs.declared.command.LineFault.the-variants.{NoMemory};
 use crate::words;
 use std::alloc::AllocError;
@@ -38,6 +38,13 @@ pub enum Command {
         symbols: Vec<u16>,
         heights: Vec<u16>,
     },
+    // the cells are read into buffers that fit
+    Read,
+    // the cells are read into buffers of these lengths
+    ReadInto {
+        symbols: u16,
+        heights: u16,
+    },
 }
 
 // Why a line cannot be carried out.
@@ -51,6 +58,8 @@ pub enum LineFault {
     OrderForm,
     // a write has no slash, or more than one
     WriteForm,
+    // a read has other than no numbers or two
+    ReadForm,
     // the command needs a page, and none has been ordered
     NoPage,
     // no memory is left for the line
@@ -64,6 +73,9 @@ pub impl fmt::Display for LineFault as LineFaultDisplay {
             LineFault::NoNumber(place) => write!(f, "word {place} is no number from 0 to 65535"),
             LineFault::OrderForm => f.write_str("order takes six numbers: KIND N R ROWS H D"),
             LineFault::WriteForm => f.write_str("write takes symbols, one / and heights"),
+            LineFault::ReadForm => {
+                f.write_str("read takes nothing, or two numbers: NSYMBOLS NHEIGHTS")
+            }
             LineFault::NoPage => f.write_str("no page has been ordered"),
             LineFault::NoMemory => f.write_str("no memory is left for this line"),
         }
@@ -92,6 +104,7 @@ enum Name {
     Order,
     Cells,
     Write,
+    Read,
 }
 
 // The command that a word names.
@@ -102,6 +115,7 @@ fn name_of(word: &[u8]) -> Option<Name>
         b"order" => Some(Name::Order),
         b"cells" => Some(Name::Cells),
         b"write" => Some(Name::Write),
+        b"read" => Some(Name::Read),
         _ => None,
     }
 }
@@ -114,13 +128,13 @@ pub fn parse(heap: Global, line: &[u8]) -> Result<Option<Command>, LineFault>
     if words.is_empty() {
         return Ok(None);
     }
-    Ok(Some(read(heap, words.as_slice())?))
+    Ok(Some(understand(heap, words.as_slice())?))
 }
 
 // What the words of a line ask for.
-fn read(heap: Global, words: &[&[u8]]) -> Result<Command, LineFault>
+fn understand(heap: Global, words: &[&[u8]]) -> Result<Command, LineFault>
     requires { ⌜ 0 < length (now words) ⌝ }
-    ensures { λ r. ⌜ Read (texts (now (words .entry))) r ⌝ }
+    ensures { λ r. ⌜ Understood (texts (now (words .entry))) r ⌝ }
 {
     let Some(name) = name_of(words[0]) else {
         return Err(LineFault::NoCommand);
@@ -129,6 +143,7 @@ fn read(heap: Global, words: &[&[u8]]) -> Result<Command, LineFault>
         Name::Order => order(heap, words),
         Name::Cells => cells(heap, words),
         Name::Write => write(heap, words),
+        Name::Read => read(heap, words),
     }
 }
 
@@ -165,7 +180,7 @@ fn order_of(numbers: &[u16]) -> Command
 // The command of a line that begins with `order`.
 fn order(heap: Global, words: &[&[u8]]) -> Result<Command, LineFault>
     requires { ⌜ Begins (texts (now words)) (codes "order") ⌝ }
-    ensures { λ r. ⌜ Read (texts (now (words .entry))) r ⌝ }
+    ensures { λ r. ⌜ Understood (texts (now (words .entry))) r ⌝ }
 {
     if words.len() != 7 {
         return Err(LineFault::OrderForm);
@@ -177,7 +192,7 @@ fn order(heap: Global, words: &[&[u8]]) -> Result<Command, LineFault>
 // The command of a line that begins with `cells`.
 fn cells(heap: Global, words: &[&[u8]]) -> Result<Command, LineFault>
     requires { ⌜ Begins (texts (now words)) (codes "cells") ⌝ }
-    ensures { λ r. ⌜ Read (texts (now (words .entry))) r ⌝ }
+    ensures { λ r. ⌜ Understood (texts (now (words .entry))) r ⌝ }
 {
     if words.len() == 1 {
         return Ok(Command::Cells);
@@ -210,7 +225,7 @@ fn slash_from(words: &[&[u8]], start: usize) -> usize
 // The command of a line that begins with `write`.
 fn write(heap: Global, words: &[&[u8]]) -> Result<Command, LineFault>
     requires { ⌜ Begins (texts (now words)) (codes "write") ⌝ }
-    ensures { λ r. ⌜ Read (texts (now (words .entry))) r ⌝ }
+    ensures { λ r. ⌜ Understood (texts (now (words .entry))) r ⌝ }
 {
     let slash = slash_from(words, 1);
     if slash == words.len() || slash_from(words, slash + 1) < words.len() {
@@ -219,4 +234,30 @@ fn write(heap: Global, words: &[&[u8]]) -> Result<Command, LineFault>
     let symbols = numbers(heap, words, 1, slash)?;
     let heights = numbers(heap, words, slash + 1, words.len())?;
     Ok(Command::Write { symbols, heights })
+}
+
+// The reading into buffers of two lengths.
+fn read_into(lengths: &[u16]) -> Command
+    requires { ⌜ length (now lengths) ≡ 2 ⌝ }
+    ensures { λ r. ⌜ r ≡ ReadInto (getD (now (lengths .entry)) 0 0) (getD (now (lengths .entry)) 1 0) ⌝ }
+{
+    Command::ReadInto {
+        symbols: lengths[0],
+        heights: lengths[1],
+    }
+}
+
+// The command of a line that begins with `read`.
+fn read(heap: Global, words: &[&[u8]]) -> Result<Command, LineFault>
+    requires { ⌜ Begins (texts (now words)) (codes "read") ⌝ }
+    ensures { λ r. ⌜ Understood (texts (now (words .entry))) r ⌝ }
+{
+    if words.len() == 1 {
+        return Ok(Command::Read);
+    }
+    if words.len() != 3 {
+        return Err(LineFault::ReadForm);
+    }
+    let lengths = numbers(heap, words, 1, words.len())?;
+    Ok(read_into(lengths.as_slice()))
 }

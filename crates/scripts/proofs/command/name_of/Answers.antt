@@ -10,3 +10,6 @@ returns-in-99 c = search (needs, text-from-reads)
 
 pub returns-in-119 : need.returns-in-119
 returns-in-119 c = search (needs, text-from-reads)
+
+pub returns-in-114 : need.returns-in-114
+returns-in-114 c = search (needs, text-from-reads)

@@ -5,7 +5,7 @@ use lib.Chars.{codes}
 use lib.ListN.{length, length-drop}
 use Rattle.std.specs.declared.option.Option.the-variants.{Some}
 use Rattle.scripts.specs.Commands.{texts}
-use Rattle.scripts.proofs.Parts.{length-texts, numbers-rest, numbers-length, six, other-command, bad-read}
+use Rattle.scripts.proofs.Parts.{length-texts, numbers-rest, numbers-length, six, other-command, bad-understood}
 use Rattle.scripts.proofs.command.order.Needs as need
 
 pub returns-then-words-ne7 : need.returns-then-words-ne7
@@ -17,7 +17,7 @@ numbers-requires c κs = (omega (arith, c .if-words-ne7 .left), omega arith)
 pub returns-in-Break-numbers : need.returns-in-Break-numbers
 returns-in-Break-numbers c =
     let ws = c .args .words .now in
-    bad-read ws 1 (length ws) _ _ (c .from-residual .ensures .1) (omega arith) (omega arith) (other-command (texts ws) (codes "order") 1 (length ws) (λ e. omega arith) (c .pre .1)) (c .in-Break-numbers .ensures tt)
+    bad-understood ws 1 (length ws) _ _ (c .from-residual .ensures .1) (omega arith) (omega arith) (other-command (texts ws) (codes "order") 1 (length ws) (λ e. omega arith) (c .pre .1)) (c .in-Break-numbers .ensures tt)
 
 pub order-of-requires : need.order-of-requires
 order-of-requires c κs =

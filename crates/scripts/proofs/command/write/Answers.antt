@@ -3,7 +3,7 @@ use Prim.Native.Nat.{_+_, _≤_, _<_}
 use native.Mathlib.Omega.{arith}
 use lib.ListN.{length}
 use Rattle.scripts.specs.Commands.{texts}
-use Rattle.scripts.proofs.Parts.{length-texts, numbers-rest, bad-read, no-slash, two-slashes, one-slash}
+use Rattle.scripts.proofs.Parts.{length-texts, numbers-rest, bad-understood, no-slash, two-slashes, one-slash}
 use Rattle.scripts.proofs.command.write.Needs as need
 use Rattle.scripts.proofs.command.write.Needs.{then-slash-words·by·then-slash-words, then-slash-words·by·else-slash-words·then-slash-from-words}
 
@@ -29,14 +29,14 @@ returns-then-slash-words c =
 pub returns-in-Break-symbols : need.returns-in-Break-symbols
 returns-in-Break-symbols c =
     let ws = c .args .words .now in
-    bad-read ws 1 (c .slash-from-slash .result) _ _ (c .from-residual .ensures .1) (omega arith) (c .slash-from-slash .ensures .within)
+    bad-understood ws 1 (c .slash-from-slash .result) _ _ (c .from-residual .ensures .1) (omega arith) (c .slash-from-slash .ensures .within)
     (λ k from below begins. c .slash-from-slash .ensures .before k from below)
     (c .in-Break-symbols .ensures tt)
 
 pub returns-in-Break-heights : need.returns-in-Break-heights
 returns-in-Break-heights c =
     let ws = c .args .words .now in
-    bad-read ws (c .slash-from-slash .result + 1) (length ws) _ _ (c .from-residual-in-Break-heights .ensures .1) (omega arith) (omega arith)
+    bad-understood ws (c .slash-from-slash .result + 1) (length ws) _ _ (c .from-residual-in-Break-heights .ensures .1) (omega arith) (omega arith)
     (λ k from below begins. c .slash-from .ensures .before k from (omega (arith, c .if-slash-from-words .left)))
     (c .in-Break-heights .ensures tt)
 
