@@ -85,7 +85,7 @@ fn show_all<W: fmt::Write>(numbers: &[u16], f: &mut fmt::Formatter<W>) -> fmt::R
 
 impl Bench {
     // No page, and no cells.
-    pub fn new(heap: Global) -> Bench {
+    pub(crate) fn new(heap: Global) -> Bench {
         Bench {
             held: None,
             numbers: Numbers {
@@ -100,7 +100,7 @@ impl Bench {
     }
 
     // The answer to a line, and none for one with no words.
-    pub fn answer(&mut self, heap: Global, line: &[u8]) -> Option<Answer> {
+    pub(crate) fn answer(&mut self, heap: Global, line: &[u8]) -> Option<Answer> {
         match parse(heap, line) {
             Ok(None) => None,
             Ok(Some(command)) => match self.carry_out(heap, command) {
