@@ -18,7 +18,7 @@ use Rattle.basics.specs.Lists.{Updated, rowOf}
 use Rattle.basics.proofs.Checking.{lowest-none, lowest-found}
 use Rattle.fields.specs.Rings.{taken}
 use Rattle.algebra.specs.Rows.{CloseRow, takenRow, among}
-use Rattle.codes.proofs.Rowing.{getD-part, length-part}
+use Rattle.codes.proofs.Rowing.{getD-part}
 use Rattle.plans.specs.Orders.{Ranges}
 use Rattle.pages.specs.Pages.{Setup, State, tabled, symbolsOf, q, n, r, cellCount}
 use Rattle.pages.specs.Reach.{levels, dead, drift, lowered, Close, RowReach, PageReach, none-close, not-risen, Found, Unfound}
@@ -28,7 +28,7 @@ use Rattle.pages.specs.declared.fault.PageFault.the-variants.{Lost}
 use Rattle.pages.proofs.Drifts.{tabled-at}
 use Rattle.pages.proofs.Levels.{row-in, column-in, cell-is}
 use Rattle.pages.proofs.Settling.{settled}
-use Rattle.pages.proofs.Writing.{row-fits}
+use Rattle.pages.proofs.Writing.{row-width}
 
 -- the symbols of the readings laid down, and corrected up to row good
 pub record Laid (p : Setup) (s : State) (blank laid corrected : List ℕ) (good : ℕ) : Type 0 where
@@ -49,9 +49,6 @@ module _ (p : Setup) (s : State) (blank laid corrected : List ℕ) (good : ℕ) 
   corrected-long : length corrected ≡ cellCount p
   corrected-long = w .corrects .long ∙ laid-long
 
-  row-long : (xs : List ℕ) → length xs ≡ cellCount p → (k : ℕ) → k < p .numbers .rows → length (rowOf (n p) k xs) ≡ n p
-  row-long xs e k h = length-part (n p) (k * n p) xs (omega (arith, row-fits p k h))
-
   at : (xs : List ℕ) (k c : ℕ) → c < n p → getD (rowOf (n p) k xs) c 0 ≡ getD xs (k * n p + c) 0
   at xs k c h = getD-part (n p) (k * n p) xs c h
 
@@ -64,17 +61,17 @@ module _ (p : Setup) (s : State) (blank laid corrected : List ℕ) (good : ℕ) 
   -- what was laid is the symbols
   row-laid : (k : ℕ) → k < p .numbers .rows → takenRow (q p) (rowOf (n p) k laid) ≡ symbolsOf (q p) (rowOf (n p) k (s .cells))
   row-laid k h = ext-getD 0 (takenRow (q p) (rowOf (n p) k laid)) (symbolsOf (q p) (rowOf (n p) k (s .cells)))
-      (length-map (rowOf (n p) k laid) (taken (q p)) ∙ row-long laid laid-long k h ∙ sym (length-map (rowOf (n p) k (s .cells)) (λ x. x % q p) ∙ row-long (s .cells) (w .cells) k h))
-      (λ c i. entry c (omega (arith, length-map (rowOf (n p) k laid) (taken (q p)), row-long laid laid-long k h)))
+      (length-map (rowOf (n p) k laid) (taken (q p)) ∙ row-width p laid laid-long k h ∙ sym (length-map (rowOf (n p) k (s .cells)) (λ x. x % q p) ∙ row-width p (s .cells) (w .cells) k h))
+      (λ c i. entry c (omega (arith, length-map (rowOf (n p) k laid) (taken (q p)), row-width p laid laid-long k h)))
     where
       small : (x : ℕ) → taken (q p) (x % q p) ≡ x % q p
       small x = let l : x % q p < q p = mod-lt x (omega (arith, w .ranges .points)) in grind (arith, tells)
 
       entry : (c : ℕ) → c < n p → getD (takenRow (q p) (rowOf (n p) k laid)) c 0 ≡ getD (symbolsOf (q p) (rowOf (n p) k (s .cells))) c 0
       entry c a =
-          getD-map (taken (q p)) (rowOf (n p) k laid) c 0 0 (omega (arith, row-long laid laid-long k h))
+          getD-map (taken (q p)) (rowOf (n p) k laid) c 0 0 (omega (arith, row-width p laid laid-long k h))
           ∙ ap (taken (q p)) (at laid k c a ∙ w .lays .new (k * n p + c) (omega (arith, w .page, cell-in k c h a)) (omega (arith, w .page, cell-in k c h a))) ∙ small (getD (s .cells) (k * n p + c) 0)
-          ∙ sym (getD-map (λ x. x % q p) (rowOf (n p) k (s .cells)) c 0 0 (omega (arith, row-long (s .cells) (w .cells) k h)) ∙ ap (λ (x : ℕ). x % q p) (at (s .cells) k c a))
+          ∙ sym (getD-map (λ x. x % q p) (rowOf (n p) k (s .cells)) c 0 0 (omega (arith, row-width p (s .cells) (w .cells) k h)) ∙ ap (λ (x : ℕ). x % q p) (at (s .cells) k c a))
 
   -- the corrected rows are close enough
   close : (k : ℕ) → k < good → Close p ms (rowOf (n p) k (s .cells)) (rowOf (n p) k corrected)
@@ -87,7 +84,7 @@ module _ (p : Setup) (s : State) (blank laid corrected : List ℕ) (good : ℕ) 
   reached : (levels-of : List ℕ) → length levels-of ≡ cellCount p → ((i : ℕ) → i < cellCount p → getD levels-of i 0 ≡ settledAt p ms (s .cells) corrected i)
       → (k : ℕ) → k < good → rowDrift p ms (s .cells) corrected k ≡ None → RowReach p ms (rowOf (n p) k (s .cells)) (rowOf (n p) k levels-of)
   reached xs long is k h fine = settled p (w .ranges) ms k (rowOf (n p) k (s .cells)) (rowOf (n p) k corrected) (rowOf (n p) k xs)
-      (row-long (s .cells) (w .cells) k k-in) (row-long xs long k k-in) (close k h) fine below entries
+      (row-width p (s .cells) (w .cells) k k-in) (row-width p xs long k k-in) (close k h) fine below entries
     where
       k-in : k < p .numbers .rows
       k-in = omega (arith, w .corrects .some)
@@ -151,7 +148,7 @@ module _ (p : Setup) (s : State) (blank laid corrected : List ℕ) (good : ℕ) 
       symbol-small i h =
           let k = row-in p (w .ranges) i h in let c = column-in p (w .ranges) i in
           subst (λ (x : ℕ). x < q p) (at corrected (i / n p) (i % n p) c ∙ ap (λ (j : ℕ). getD corrected j 0) (cell-is p (w .ranges) i))
-          (close (i / n p) (omega arith) .code .elements (i % n p) (omega (arith, row-long corrected corrected-long (i / n p) k)))
+          (close (i / n p) (omega arith) .code .elements (i % n p) (omega (arith, row-width p corrected corrected-long (i / n p) k)))
 
       small : (i : ℕ) → i < cellCount p → (dead p ms i ≡ true) ⊎ (dead p ms i ≡ false) → cond (dead p ms i) (getD xs i 0 % q p) (getD xs i 0) ≡ getD xs i 0
       small i h (inl e) = ap (λ (b : Bool). cond b (getD xs i 0 % q p) (getD xs i 0)) e

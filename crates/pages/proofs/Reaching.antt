@@ -19,7 +19,7 @@ use Rattle.basics.proofs.Checking.{none-lowest}
 use Rattle.fields.specs.Rings.{RingLaws, Inverses, Points}
 use Rattle.algebra.specs.Rows.{CodeRow, among, differing}
 use Rattle.algebra.proofs.Distance.{one-code-row}
-use Rattle.codes.proofs.Rowing.{getD-part, length-part}
+use Rattle.codes.proofs.Rowing.{getD-part}
 use Rattle.plans.specs.Orders.{Ranges}
 use Rattle.pages.specs.Pages.{Setup, State, Buffers, tabled, symbolsOf, q, n, r, cellCount, symbolCount, cellOf, contents}
 use Rattle.pages.specs.Reach.{levels, dead, RowReach, PageReach, lowered, blanked, Close, drift, driftFault, RowFault, none-close, not-risen, Found, Unfound}
@@ -27,7 +27,7 @@ use Rattle.pages.specs.Calls.{readingFault}
 use Rattle.pages.specs.declared.fault.PageFault.{PageFault}
 use Rattle.pages.proofs.Drifts.{same-level, drift-is, symbols-differ-less, tabled-at, tabled-same}
 use Rattle.pages.proofs.Levels.{row-in, column-in, cell-is, cell-inside}
-use Rattle.pages.proofs.Writing.{row-fits}
+use Rattle.pages.proofs.Writing.{row-width}
 
 -- a check of an unmarked place that passes there
 unmarked-none : {F : Type 0} (b wrong : Bool) (f : F) → (b ≡ false → wrong ≡ false) → check (not b && wrong) f ≡ None
@@ -45,9 +45,6 @@ inside p rg i h = (row-in p rg i h, column-in p rg i, cell-is p rg i)
 
 row-at : (n k : ℕ) (xs : List ℕ) (i : ℕ) → i < n → getD (rowOf n k xs) i 0 ≡ getD xs (k * n + i) 0
 row-at n k xs i h = getD-part n (k * n) xs i h
-
-row-length : (p : Setup) (k : ℕ) (xs : List ℕ) → length xs ≡ cellCount p → k < p .numbers .rows → length (rowOf (n p) k xs) ≡ n p
-row-length p k xs e h = length-part (n p) (k * n p) xs (omega (arith, row-fits p k h))
 
 module _ (p : Setup) (inv : ℕ → ℕ) (laws : RingLaws (p .field .ring)) (is : Inverses (p .field .ring) inv) (ps : Points (p .field .ring) (p .field .point))
     (rg : Ranges (q p) (p .numbers)) where
@@ -95,7 +92,7 @@ module _ (p : Setup) (inv : ℕ → ℕ) (laws : RingLaws (p .field .ring)) (is 
     -- NEVER TWO PAGES
     pub one-page : lowered p ms xs ≡ lowered p ms zs
     one-page = tabled-same (cellCount p) _ _ (λ i h.
-        let w = inside p rg i h in let k = i / n p in let l = row-length p k ys (hx .cells) (w .0) in
+        let w = inside p rg i h in let k = i / n p in let l = row-width p ys (hx .cells) k (w .0) in
         at-place i (w .2) (row-at (n p) k xs (i % n p) (w .1)) (row-at (n p) k zs (i % n p) (w .1))
         (row-symbols ms (rowOf (n p) k ys) (rowOf (n p) k xs) (rowOf (n p) k zs) l (hx .rows k (w .0)) (hz .rows k (w .0)) (i % n p) (w .1))
         (row-levels ms (rowOf (n p) k ys) (rowOf (n p) k xs) (rowOf (n p) k zs) l (hx .rows k (w .0)) (hz .rows k (w .0)) (i % n p) (w .1)))
@@ -125,7 +122,7 @@ module _ (p : Setup) (inv : ℕ → ℕ) (laws : RingLaws (p .field .ring)) (is 
   -- where a page is in reach, decoding finds one
   pub never-unfound : (s : State) (xs : List ℕ) → PageReach p (s .marking) (s .cells) xs → (f : PageFault) → Unfound p s f → ⊥
   never-unfound s xs h f u =
-      no-fault (rowOf (n p) (u .row) xs) (row-length p (u .row) (s .cells) (h .cells) (u .inside)) (h .rows (u .row) (u .inside)) (u .fault)
+      no-fault (rowOf (n p) (u .row) xs) (row-width p (s .cells) (h .cells) (u .row) (u .inside)) (h .rows (u .row) (u .inside)) (u .fault)
 
   -- a row is refused by one fault
   row-one-fault : {f g : PageFault} {ms ys : List ℕ} {k : ℕ} → length ys ≡ n p → RowFault p ms k ys f → RowFault p ms k ys g → f ≡ g
@@ -146,7 +143,7 @@ module _ (p : Setup) (inv : ℕ → ℕ) (laws : RingLaws (p .field .ring)) (is 
   ]
     where
       long : (k : ℕ) → k < p .numbers .rows → length (rowOf (n p) k (s .cells)) ≡ n p
-      long k h = row-length p k (s .cells) size h
+      long k h = row-width p (s .cells) size k h
 
   -- no reading is refused
   pub readings-fine : (s : State) (xs : List ℕ) → PageReach p (s .marking) (s .cells) xs → lowest 0 (cellCount p) (readingFault p s) ≡ None

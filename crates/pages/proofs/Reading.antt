@@ -20,7 +20,7 @@ use Rattle.basics.proofs.Checking.{check-false, first-passes, others-pass, lowe
 use Rattle.fields.specs.Rings.{RingLaws, Inverses, Points}
 use Rattle.algebra.specs.Rows.{among}
 use Rattle.algebra.proofs.Correct.{differing-same, close-same}
-use Rattle.codes.proofs.Rowing.{getD-part, length-part}
+use Rattle.codes.proofs.Rowing.{getD-part}
 use Rattle.plans.specs.Orders.{Ranges, orderFault}
 use Rattle.plans.proofs.Ranged.{ranges}
 use Rattle.pages.specs.Pages.{Setup, State, Buffers, symbolsOf, q, n, r, cellCount, contents}
@@ -31,7 +31,7 @@ use Rattle.pages.specs.Views.{counts, Reads}
 use Rattle.pages.specs.declared.fault.PageFault.{PageFault}
 use Rattle.pages.specs.declared.fault.PageFault.the-variants.{Order, Length, Far, Under}
 use Rattle.pages.proofs.Reaching.{one-page, found-is, never-unfound, one-fault, readings-fine, contents-lowered}
-use Rattle.pages.proofs.Writing.{row-fits}
+use Rattle.pages.proofs.Writing.{row-width}
 
 -- a check of a place that looks only where it is unmarked
 unmarked-same : {F : Type 0} (b x y : Bool) (f : F) → (b ≡ false → x ≡ y) → check (not b && x) f ≡ check (not b && y) f
@@ -75,15 +75,12 @@ module _ (p : Setup) (s t : State) (a : Alike p s t) where
       getD-part (n p) (k * n p) (t .cells) i h ∙ a .same (k * n p + i) (ap (λ (j : ℕ). among j (s .marking)) (digits-mod k {m = n p} {r = i} h) ∙ u)
       ∙ sym (getD-part (n p) (k * n p) (s .cells) i h)
 
-  row-long : (xs : List ℕ) → length xs ≡ cellCount p → (k : ℕ) → k < p .numbers .rows → length (rowOf (n p) k xs) ≡ n p
-  row-long xs e k h = length-part (n p) (k * n p) xs (omega (arith, row-fits p k h))
-
   pub found-unseen : (xs : List ℕ) → Found p s xs → Found p t xs
   found-unseen xs f = record {
     reach = subst (λ (ms : List ℕ). PageReach p ms (t .cells) xs) (sym (a .marks)) (record {
       size = f .reach .size;
       cells = a .long ∙ f .reach .cells;
-      rows = λ k h. row-unseen p (s .marking) (rowOf (n p) k (s .cells)) (rowOf (n p) k (t .cells)) (row-long (s .cells) (f .reach .cells) k h) (row-long (t .cells) (a .long ∙ f .reach .cells) k h)
+      rows = λ k h. row-unseen p (s .marking) (rowOf (n p) k (s .cells)) (rowOf (n p) k (t .cells)) (row-width p (s .cells) (f .reach .cells) k h) (row-width p (t .cells) (a .long ∙ f .reach .cells) k h)
           (row-same k) (rowOf (n p) k xs) (f .reach .rows k h);
     });
     low = f .low ∙ ap (λ (ms : List ℕ). lowered p ms xs) (sym (a .marks));
@@ -96,10 +93,10 @@ module _ (p : Setup) (s t : State) (a : Alike p s t) where
     earlier = λ k h. let (xs, reach) = u .earlier k h in (
       xs,
       subst (λ (ms : List ℕ). RowReach p ms (rowOf (n p) k (t .cells)) xs) (sym (a .marks))
-          (row-unseen p (s .marking) (rowOf (n p) k (s .cells)) (rowOf (n p) k (t .cells)) (row-long (s .cells) e k (omega (arith, u .inside))) (row-long (t .cells) (a .long ∙ e) k (omega (arith, u .inside))) (row-same k) xs reach),
+          (row-unseen p (s .marking) (rowOf (n p) k (s .cells)) (rowOf (n p) k (t .cells)) (row-width p (s .cells) e k (omega (arith, u .inside))) (row-width p (t .cells) (a .long ∙ e) k (omega (arith, u .inside))) (row-same k) xs reach),
     );
     fault = subst (λ (ms : List ℕ). RowFault p ms (u .row) (rowOf (n p) (u .row) (t .cells)) f) (sym (a .marks))
-        (fault-unseen p (s .marking) (rowOf (n p) (u .row) (s .cells)) (rowOf (n p) (u .row) (t .cells)) (row-long (s .cells) e (u .row) (u .inside)) (row-long (t .cells) (a .long ∙ e) (u .row) (u .inside)) (row-same (u .row)) (u .row) f (u .fault));
+        (fault-unseen p (s .marking) (rowOf (n p) (u .row) (s .cells)) (rowOf (n p) (u .row) (t .cells)) (row-width p (s .cells) e (u .row) (u .inside)) (row-width p (t .cells) (a .long ∙ e) (u .row) (u .inside)) (row-same (u .row)) (u .row) f (u .fault));
   }
 
 -- a read whose checks passed was refused by decoding, or found its page

@@ -35,6 +35,10 @@ pub record Steps (p : Setup) (b : Buffers) (cells laid filled levels : List ℕ)
 pub row-fits : (p : Setup) (k : ℕ) → k < p .numbers .rows → k * n p + n p ≤ cellCount p
 row-fits p k h = omega (arith, mul-le (k + 1) (n p) (p .numbers .rows) (n p) (omega arith) (omega arith), add-mul k 1 (n p))
 
+-- and has as many columns as the page
+pub row-width : (p : Setup) (xs : List ℕ) → length xs ≡ cellCount p → (k : ℕ) → k < p .numbers .rows → length (rowOf (n p) k xs) ≡ n p
+row-width p xs e k h = length-part (n p) (k * n p) xs (omega (arith, row-fits p k h))
+
 module _ (p : Setup) (g : Ranges (q p) (p .numbers)) (laid filled : List ℕ) (long : length laid ≡ cellCount p)
     (fills : FilledRows (p .field) (n p) (counting 0 (r p)) laid filled) where
   pub row-filled : (k : ℕ) → k < p .numbers .rows → Filled (p .field) (counting 0 (r p)) (rowOf (n p) k laid) (rowOf (n p) k filled)
@@ -47,15 +51,12 @@ module _ (p : Setup) (g : Ranges (q p) (p .numbers)) (laid filled : List ℕ) (l
   at : (xs : List ℕ) (k c : ℕ) → c < n p → getD (rowOf (n p) k xs) c 0 ≡ getD xs (k * n p + c) 0
   at xs k c h = getD-part (n p) (k * n p) xs c h
 
-  row-long : (xs : List ℕ) → length xs ≡ cellCount p → (k : ℕ) → k < p .numbers .rows → length (rowOf (n p) k xs) ≡ n p
-  row-long xs e k h = length-part (n p) (k * n p) xs (omega (arith, row-fits p k h))
-
   -- the filled cells are elements
   pub filled-in : (i : ℕ) → i < length filled → getD filled i 0 < q p
   filled-in i h =
       let k = row-in p g i (omega (arith, filled-long)) in let c = column-in p g i in
       subst (λ (x : ℕ). x < q p) (at filled (i / n p) (i % n p) c ∙ ap (λ (j : ℕ). getD filled j 0) (cell-is p g i))
-      (row-filled (i / n p) k .is .code .elements (i % n p) (omega (arith, row-long filled filled-long (i / n p) k)))
+      (row-filled (i / n p) k .is .code .elements (i % n p) (omega (arith, row-width p filled filled-long (i / n p) k)))
 
 module _ (p : Setup) (b : Buffers) (cells laid filled levels : List ℕ) (s : Steps p b cells laid filled levels) where
   laid-long : length laid ≡ cellCount p

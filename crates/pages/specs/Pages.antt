@@ -19,7 +19,7 @@ pub record State : Type 0 where
   pub marking : List ℕ
   pub cells : List ℕ
 
--- what a caller brings to a write: message symbols and heights, row after row
+-- what a caller brings to a write, or has filled by a read: message symbols and heights, row after row
 pub record Buffers : Type 0 where
   pub symbols : List ℕ
   pub heights : List ℕ
