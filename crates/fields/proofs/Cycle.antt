@@ -1,5 +1,5 @@
 -- What the powers of g and the tables give in any ring: products, inverses and points.
-use Rattle.std.proofs.Common.{◌≡◌, ℕ, zero, suc, ◌+◌, ◌-◌, ◌<◌, ◌≤◌, Bool, true, false, cond, not, T, eqb, ltb, leb, List, length, get_or, sym, refl, ap, ◌∙◌, subst, le_of_suc-le-suc, not-suc-le-zero, add-zero, le_antisymm, suc-add, zero-add, arith, eqb→eq, ltb→lt, lt→ltb, leb→le}
+use Rattle.std.proofs.Common.{◌≡◌, ℕ, zero, suc, ◌+◌, ◌-◌, ◌<◌, ◌≤◌, Bool, true, false, cond, not, T, eqb, ltb, leb, List, length, get_or, sym, refl, ap, ◌∙◌, subst, le_of_suc-le-suc, not-suc-le-zero, le_antisymm, suc-add, zero-add, arith, eqb→eq, lt→ltb, leb→le}
 use lib.Arith.{lt_of_le-ne, le→nltb}
 use lib.Dec.{nleb→lt}
 use Rattle.fields.specs.Rings.{RingOps, RingLaws, Inverses, Points, taken, power}
@@ -48,13 +48,13 @@ module _ {o : RingOps} (r : RingLaws o) where
   double_zero : (x : ℕ) → x < o.order → o.add x x ≡ x → x ≡ 0
   double_zero x h e =
       let n = r.neg_in x in
-      sym (r.add-zero x h) ∙ ap (o.add x) (sym (r.add_neg x h)) ∙ sym (r.add_assoc x x (o.neg x) h h n)
+      sym (r.add_zero x h) ∙ ap (o.add x) (sym (r.add_neg x h)) ∙ sym (r.add_assoc x x (o.neg x) h h n)
       ∙ ap (λ (y : ℕ). o.add y (o.neg x)) e ∙ r.add_neg x h
 
   pub mul_zero : (a : ℕ) → a < o.order → o.mul a 0 ≡ 0
   mul_zero a h =
       double_zero (o.mul a 0) (r.mul_in a 0)
-      (sym (r.distrib a 0 0 h zero_in zero_in) ∙ ap (o.mul a) (r.add-zero 0 zero_in))
+      (sym (r.distrib a 0 0 h zero_in zero_in) ∙ ap (o.mul a) (r.add_zero 0 zero_in))
 
   pub zero_mul : (a : ℕ) → a < o.order → o.mul 0 a ≡ 0
   zero_mul a h = r.mul_comm 0 a zero_in h ∙ mul_zero a h

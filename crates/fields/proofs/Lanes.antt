@@ -1,5 +1,5 @@
 -- Lane by lane: what one more row adds to the sums.
-use Rattle.std.proofs.Common.{◌≡◌, ℕ, zero, suc, ◌+◌, ◌<◌, ◌≤◌, List, [], length, get_or, replicate, sym, refl, ap, ◌∙◌, add-one, arith}
+use Rattle.std.proofs.Common.{◌≡◌, ℕ, ◌+◌, List, get_or, replicate, sym, refl, ap, ◌∙◌, add-one, arith}
 use Rattle.basics.specs.Lists.{Updated}
 use Rattle.basics.proofs.Updating.{get_d_zeros}
 use Rattle.fields.specs.Rings.{RingOps, Combined, sum, entry}

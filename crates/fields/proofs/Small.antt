@@ -1,5 +1,5 @@
 -- A small ring: its laws by one test over all its elements, which the checker computes.
-use Rattle.std.proofs.Common.{◌≡◌, ℕ, ◌<◌, ◌≤◌, Bool, ◌&&◌, T, eqb, ltb, eqb→eq, ltb→lt}
+use Rattle.std.proofs.Common.{ℕ, ◌<◌, ◌≤◌, Bool, ◌&&◌, T, eqb, ltb, eqb→eq, ltb→lt}
 use Rattle.fields.specs.Guard.{Laws}
 use Rattle.fields.specs.Tested.{both, below, below_at}
 

@@ -1,15 +1,14 @@
 -- Binary polynomials modulo m are a ring: the product is additive in each argument, and a computed test on the powers of x does the rest.
-use Rattle.std.specs.Prelude.{◌≡◌, ℕ, zero, suc, ◌+◌, ◌-◌, ◌*◌, ◌/◌, ◌%◌, ◌^◌, ◌<◌, ◌≤◌, Bool, true, false, not, ◌&&◌, T, ◌==◌, nat_eq}
+use Rattle.std.specs.Prelude.{◌≡◌, ℕ, zero, suc, ◌+◌, ◌-◌, ◌*◌, ◌/◌, ◌%◌, ◌^◌, ◌<◌, ◌≤◌, Bool, ◌&&◌, T, ◌==◌, nat_eq}
 use Rattle.std.proofs.Math.Path.{refl}
-use Rattle.std.proofs.Common.{sym, ap, ◌∙◌, subst, zero-mul, one-mul, mul-zero, add-zero, zero-add, mod-lt, not-suc-le-zero, le_of_suc-le-suc, le_antisymm, add_comm, one-add, arith, eqb→eq, leb→le, lit<, lit≤, shr_lt, shl_lt}
+use Rattle.std.proofs.Common.{sym, ap, ◌∙◌, subst, zero-mul, one-mul, add-zero, mod-lt, add_comm, one-add, arith, eqb→eq, lit<, shr_lt, shl_lt}
 use Rattle.std.proofs.Math.Arith.{lt-one}
-use Rattle.std.specs.Int.Bits.{bit_xor, xor_assoc, xor_self, xor_zero_l, xor_zero_r, xor_shr, xor_lt, xor_shifted}
+use Rattle.std.specs.Int.Bits.{bit_xor, xor_assoc, xor_self, xor_zero_r, xor_shr, xor_lt, xor_shifted}
 use Rattle.std.proofs.lemmas.Nat.{xor_comm, xor_block, xor_mod}
-use Rattle.std.proofs.Math.Dec.{nleb→lt}
 use Rattle.std.proofs.Math.Pow.{split, pow_pos, pow-lt}
 use Rattle.fields.specs.Rings.{RingLaws}
 use Rattle.fields.specs.Kinds.{times_x, product, binary}
-use Rattle.fields.specs.Guard.{Laws, guard}
+use Rattle.fields.specs.Guard.{guard}
 use Rattle.fields.specs.Tested.{both, below, below_at}
 
 -- at the powers of x below degree w: 1 is a unit, and the product is commutative and associative
@@ -170,7 +169,7 @@ module _ (w m : ℕ) where
             mul_in = λ a b ha hb. inside a b ha;
             add_assoc = λ a b c _ _ _. xor_assoc a b c;
             add_comm = λ a b _ _. xor_comm a b;
-            add-zero = λ a _. xor_zero_r a;
+            add_zero = λ a _. xor_zero_r a;
             add_neg = λ a _. xor_self a;
             mul_assoc = assoc;
             mul_comm = comm;

@@ -1,7 +1,7 @@
 -- Laws on the numbers below q are laws of the guarded operations.
-use Rattle.std.specs.Prelude.{◌≡◌, ℕ, zero, suc, ◌+◌, ◌-◌, ◌*◌, ◌%◌, ◌<◌, ◌≤◌, Bool, true, false, cond, T, nat_lt, refl}
-use Rattle.std.proofs.Common.{sym, ap, ◌∙◌, arith, lt→ltb, ltb→lt}
-use Rattle.fields.specs.Rings.{RingOps, RingLaws, taken}
+use Rattle.std.specs.Prelude.{◌≡◌, ℕ, ◌<◌, ◌≤◌, Bool, true, false, cond, T, nat_lt, refl}
+use Rattle.std.proofs.Common.{sym, ap, arith, lt→ltb, ltb→lt}
+use Rattle.fields.specs.Rings.{RingLaws, taken}
 use Rattle.fields.specs.Kinds.{guarded}
 
 pub record Laws (q : ℕ) (n : ℕ → ℕ) (s p : ℕ → ℕ → ℕ) : Type 0 where

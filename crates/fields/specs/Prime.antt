@@ -1,10 +1,10 @@
 -- The whole numbers modulo q are a ring.
-use Rattle.std.specs.Prelude.{◌≡◌, ℕ, zero, suc, ◌+◌, ◌-◌, ◌*◌, ◌/◌, ◌%◌, ◌<◌, ◌≤◌, refl}
+use Rattle.std.specs.Prelude.{◌≡◌, ℕ, ◌+◌, ◌-◌, ◌*◌, ◌/◌, ◌%◌, ◌<◌, ◌≤◌}
 use Rattle.std.proofs.Common.{sym, ap, ◌∙◌, add-mul, mul_assoc, mul_comm, mul-add, mul-one, mod-lt, mod-eq_of_lt, add_assoc, add_comm, add-zero, arith}
 use Rattle.std.proofs.Math.Nat.{mod-add-div', add-mul-mod_self_right, mod-add-mod, add-mod-mod, mod_self}
 use Rattle.fields.specs.Rings.{RingLaws}
 use Rattle.fields.specs.Kinds.{prime}
-use Rattle.fields.specs.Guard.{Laws, guard}
+use Rattle.fields.specs.Guard.{guard}
 
 -- a factor may be reduced first
 mul_mod : (q a b : ℕ) → a % q * b % q ≡ a * b % q
@@ -28,10 +28,10 @@ laws q low high =
       mul_in = λ a b ha hb. m (a * b);
       add_assoc = λ a b c ha hb hc. rw (mod-add-mod, add-mod-mod, add_assoc);
       add_comm = λ a b ha hb. rw (add_comm a b);
-      add-zero = λ a h. rw add-zero (mod-eq_of_lt h);
+      add_zero = λ a h. rw add-zero (mod-eq_of_lt h);
       add_neg = neg_mod q;
       mul_assoc = λ a b c ha hb hc. rw (mul_mod, mul_mod_right, mul_assoc);
       mul_comm = λ a b ha hb. rw (mul_comm a b);
-      mul-one = λ a h. rw mul-one (mod-eq_of_lt h);
+      mul_one = λ a h. rw mul-one (mod-eq_of_lt h);
       distrib = λ a b c ha hb hc. rw (mul_mod_right, mul-add, mod-add-mod, add-mod-mod);
     })

@@ -1,5 +1,5 @@
 -- The seven kinds: each has the laws, and its tables pass their tests.
-use Rattle.std.specs.Prelude.{◌≡◌, ℕ, zero, suc, ◌+◌, ◌<◌, ◌≤◌, T, List, refl}
+use Rattle.std.specs.Prelude.{◌≡◌, ℕ, zero, suc, ◌<◌, ◌≤◌, T, List, refl}
 use Rattle.std.proofs.Common.{sym, ap, ◌∙◌, subst, arith, lit≤, lit<}
 use Rattle.fields.specs.Rings.{RingLaws, taken}
 use Rattle.fields.specs.Kinds.{ops_of, order_of, generator_of, times_x, product, Powers, Logarithms, InverseTable}

@@ -1,5 +1,5 @@
 -- The tables of powers, logarithms and inverses are right: one test over each table, which the checker computes.
-use Rattle.std.specs.Prelude.{◌≡◌, ℕ, zero, suc, ◌+◌, ◌-◌, ◌<◌, ◌≤◌, Bool, true, false, cond, not, ◌&&◌, T, List, [], ◌∷◌, length, ◌==◌, nat_le, nat_lt, slice_index, slice_index_or, refl}
+use Rattle.std.specs.Prelude.{◌≡◌, ℕ, zero, suc, ◌+◌, ◌<◌, ◌≤◌, Bool, true, false, cond, not, ◌&&◌, T, List, [], ◌∷◌, length, ◌==◌, nat_le, nat_lt, slice_index, slice_index_or}
 use Rattle.std.proofs.Common.{sym, ap, ◌∙◌, subst, add-zero, zero-add, add-suc, suc-add, le_of_suc-le-suc, le_antisymm, not-suc-le-zero, add-one, one-add, arith, eqb→eq, ltb→lt, leb→le}
 use Rattle.std.proofs.Math.Dec.{nleb→lt}
 use Rattle.fields.specs.Rings.{RingOps, power}

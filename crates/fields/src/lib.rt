@@ -1,4 +1,6 @@
 // Rings and fields on the numbers below an order: the two traits that a field shows, and seven fields by a kind number.
+#![tactic(auto)]
+
 ghost use Rattle.std.specs.Prelude.{◌≡◌, ℕ, ◌<◌, ◌≤◌, min, length, slice_index};
 ghost use Rattle.fields.specs.Rings.{RingOps, RingLaws, Inverses, Points, Combined};
 ghost use Rattle.basics.specs.Lists.{Updated};

@@ -7,7 +7,7 @@ pub loop-i-init : goal.loop-i-init
 loop-i-init g c = combined_none _ _ _ _
 
 pub loop-i-preserved : goal.loop-i-preserved
-loop-i-preserved g c = combined_more _ _ _ _ _ _ _ c.loop-i.invariant c.scale-add.ensures
+loop-i-preserved g c = combined_more _ _ _ _ _ _ _ c.loop-i.invariant c.scale_add.ensures
 
 pub returns : goal.returns
 returns g c =

@@ -1,4 +1,4 @@
-use Rattle.std.proofs.Common.{◌≡◌, ◌<◌, ◌≤◌, min, length, get_or, ◌∙◌, ap₂, arith}
+use Rattle.std.proofs.Common.{◌≡◌, ◌<◌, min, length, ◌∙◌, ap₂, arith}
 use Rattle.basics.proofs.Updating.{updated_none, updated_more, updated_all}
 use Rattle.fields.proofs.Ring.scale_add.Goals as goal
 

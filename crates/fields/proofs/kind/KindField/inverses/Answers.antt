@@ -11,5 +11,5 @@ returns-in-2 c = inverses_at 2 _ c.in-2.is tt
 pub returns-in-3 : goal.returns-in-3
 returns-in-3 c = inverses_at 3 _ c.in-3.is tt
 
-pub returns-in-default : goal.returns-in-default
-returns-in-default c = inverses_at 4 _ (omega arith) tt
+pub returns-in_default : goal.returns-in_default
+returns-in_default c = inverses_at 4 _ (omega arith) tt

@@ -12,6 +12,6 @@ pub returns-in-6 : goal.returns-in-6
 unfolding times_x power product
 returns-in-6 c = logs_at 6 _ c.in-6.is tt
 
-pub returns-in-default : goal.returns-in-default
+pub returns-in_default : goal.returns-in_default
 unfolding times_x power product
-returns-in-default c = logs_at 7 _ (omega arith) tt
+returns-in_default c = logs_at 7 _ (omega arith) tt

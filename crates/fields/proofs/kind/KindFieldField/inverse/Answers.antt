@@ -3,8 +3,8 @@ use Rattle.fields.proofs.Cycle.{inverse_none, entry_inverse, entry_inverses, log
 use Rattle.fields.specs.Seven.{laws, generator_in, taken_is}
 use Rattle.fields.proofs.kind.KindFieldField.inverse.Goals as goal
 
-pub returns-then-is-prime : goal.returns-then-is-prime
-returns-then-is-prime c =
+pub returns-then-is_prime : goal.returns-then-is_prime
+returns-then-is_prime c =
     let f = c.args.self.now in let k = f.kind in let ok = f.ok in
     record {
       value = entry_inverse (laws k ok) c.inverses.ensures c.args.a _ (taken_is k ok c.args.a c.reduced-x.ensures);
