@@ -7,7 +7,7 @@ use Rattle.algebra.specs.Rows.{moment, syndrome, CodeRow, among, rising, Filled}
 use Rattle.algebra.specs.Polynomials.{turned, quotient, gamma, weight, filler, value}
 use Rattle.algebra.proofs.Count.{count_all, count_among}
 use Rattle.algebra.proofs.Ring.{Solid, Divides, solid, divides}
-use Rattle.algebra.proofs.Solve.{ring, signed, mul_zero, zero_add, neg_neg, nonzero_mul}
+use Rattle.algebra.proofs.Solve.{signed, mul_zero, zero_add, neg_neg, nonzero_mul}
 use Rattle.algebra.proofs.Sum.{sum_in, sum_same, sum_neg, sum_scale, sum_only, power_nonzero}
 use Rattle.algebra.proofs.Moments.{Apart, moment_add, moment_up}
 use Rattle.algebra.proofs.Weights.{weights, Meets}

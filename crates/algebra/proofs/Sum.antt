@@ -3,7 +3,7 @@ use Rattle.std.proofs.Common.{◌≡◌, ℕ, zero, suc, ◌+◌, ◌-◌, ◌<�
 use native.Mathlib.Decide.{le_ind}
 use Rattle.fields.specs.Rings.{RingOps, sum, power}
 use Rattle.algebra.proofs.Ring.{Solid, Divides}
-use Rattle.algebra.proofs.Solve.{ring, mul_zero, zero_mul, zero-add as zero_plus, one_mul, nonzero_mul, neg_add, neg_zero}
+use Rattle.algebra.proofs.Solve.{ring, mul_zero, zero_mul, zero_add as zero_plus, one_mul, nonzero_mul, neg_add, neg_zero}
 
 module _ {o : RingOps} (l : Solid o) where
   open o use {order as q, neg, add as ◌⊕◌, mul as ◌⊗◌}

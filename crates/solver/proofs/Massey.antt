@@ -5,7 +5,7 @@ use Rattle.fields.specs.Rings.{RingOps, sum}
 use Rattle.algebra.specs.Polynomials.{Normal}
 use Rattle.algebra.specs.Recurrences.{gap, Fits, Least}
 use Rattle.algebra.proofs.Ring.{Solid}
-use Rattle.algebra.proofs.Solve.{ring, signed, zero_mul, zero-add as zero_plus}
+use Rattle.algebra.proofs.Solve.{ring, signed, zero_mul, zero_add as zero_plus}
 use Rattle.algebra.proofs.Sum.{sum_in, sum_first, sum_same, sum_add, sum_scale, sum_beyond}
 use Rattle.algebra.proofs.Recur.{no_gap}
 use Rattle.solver.specs.Stages.{shift, mended, Stage}

@@ -1,5 +1,7 @@
 // The shortest linear recurrence of up to 64 values over any field, by Massey's steps. The recurrence so far is tried on one
 // value after the other; where it does not fit, a multiple of the one before its length last grew is added to it.
+#![tactic(auto)]
+
 ghost use Rattle.std.specs.Prelude.{◌≡◌, ℕ, ◌+◌, ◌<◌, ◌≤◌, length, MatchOption};
 ghost use Rattle.algebra.specs.Polynomials.{unit, Normal};
 ghost use Rattle.algebra.specs.Recurrences.{gap, at, Shortest};
