@@ -1,4 +1,6 @@
 // Polynomials over any ring, and code rows over any field.
+#![tactic(auto)]
+
 pub mod correct;
 pub mod fill;
 pub mod poly;

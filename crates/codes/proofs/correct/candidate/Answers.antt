@@ -8,21 +8,21 @@ damaged-columns-requires g c = (c.requires.ready.fits.few, c.shortest-found.ensu
 pub returns : goal.returns
 returns g c =
     let f = c.args.field.now in let o = g.F.Ring.ops f in let t = c.args.tables.now in let row = c.args.row.now in let ms = c.args.marked.now in
-    let w : Worked (record { ring = o; point = g.F.Field.points f }) (g.F.Field.inv f) ms t row c.args.syndromes.now c.times-syndromes-rest.result
+    let w : Worked (record { ring = o; point = g.F.Field.points f }) (g.F.Field.inv f) ms t row c.args.syndromes.now c.times_syndromes-rest.result
     c.shortest-found.result.l c.shortest-found.result.c c.locator-locator.result
-    (record { columns = c.damaged-columns.result; above = c.times-syndromes.result; below = c.derivative-of.result }) c.repaired.result =
+    (record { columns = c.damaged-columns.result; above = c.times_syndromes.result; below = c.derivative_of.result }) c.repaired.result =
     record {
       ready = c.requires.ready;
       row_long = omega arith;
       row_in = c.requires.elements;
       c_long = c.shortest-found.ensures.long;
       syndromes_are = c.requires.syndromes;
-      rest_is = c.times-syndromes-rest.ensures;
+      rest_is = c.times_syndromes-rest.ensures;
       found_is = c.shortest-found.ensures.shortest;
       columns_are = c.damaged-columns.ensures;
       locator_is = c.locator-locator.ensures;
-      above_is = c.times-syndromes.ensures;
-      below_is = c.derivative-of.ensures;
+      above_is = c.times_syndromes.ensures;
+      below_is = c.derivative_of.ensures;
       row_is = c.repaired.ensures;
     } in
     record {

@@ -7,11 +7,11 @@ decode-requires g c =
     let low = (g.met.F.Ring.ring c.args.field.now).low in
     record { ready = c.requires.ready; elements = copied_in _ _ _ _ _ _ (omega arith) c.cleared-row.ensures }
 
-pub returns-in-default : goal.returns-in-default
-returns-in-default g c =
+pub returns-in_default : goal.returns-in_default
+returns-in_default g c =
     record {
       found = λ e. absurd (true≢false (sym e));
-      lost = λ _. record { same = refl; none = none_close _ _ _ _ _ _ _ c.requires.ready.fits.few c.requires.inside c.cleared-row.ensures c.in-default.ensures };
+      lost = λ _. record { same = refl; none = none_close _ _ _ _ _ _ _ c.requires.ready.fits.few c.requires.inside c.cleared-row.ensures c.in_default.ensures };
     }
 
 pub returns : goal.returns

@@ -13,14 +13,14 @@ use Rattle.codes.proofs.correct.correct_rows.Goals as goal
 pub loop-k-init : goal.loop-k-init
 loop-k-init g c = until_none _ _ _
 
-pub overflow-mul-k : goal.overflow-mul-k
-overflow-mul-k g c =
-    let f = c.in-ok-check.ensures.fits in
+pub overflow_mul-k : goal.overflow_mul-k
+overflow_mul-k g c =
+    let f = c.in_ok-check.ensures.fits in
     let h = row_inside c.loop-k.k c.args.width (length c.args.rows.now) f.some c.loop-k-test.true in omega arith
 
-pub correct-row-requires : goal.correct-row-requires
-correct-row-requires g c =
-    let f = c.in-ok-check.ensures.fits in let n = c.args.width in let size = length c.args.rows.now in let ms = c.args.marked.now in
+pub correct_row-requires : goal.correct_row-requires
+correct_row-requires g c =
+    let f = c.in_ok-check.ensures.fits in let n = c.args.width in let size = length c.args.rows.now in let ms = c.args.marked.now in
     let h : c.loop-k.k * n + n ≤ size = row_inside c.loop-k.k n size f.some c.loop-k-test.true in
     let few = f.few in
     record {
@@ -29,8 +29,8 @@ correct-row-requires g c =
         fits = subst (λ (q : ℕ). FitsChecks q n c.args.checks ms) c.order.ensures f;
         inverses = c.rules.ensures.inverses;
         points = c.rules.ensures.points;
-        powers_are = c.power-table.ensures;
-        inverses_are = λ k i. c.inverse-points.ensures.new k i (omega arith);
+        powers_are = c.power_table.ensures;
+        inverses_are = λ k i. c.inverse_points.ensures.new k i (omega arith);
         marks_are = flagged_end few c.flags-marks.ensures;
         locator_is = λ j i. c.locator.ensures j i
             ∙ ap (λ (p : ℕ → ℕ). p j) (product_tests (g.F.Ring.ops c.args.field.now) n (λ k. get_or c.flags-marks.result k false) (λ k. among k ms) (g.F.Field.points c.args.field.now)
@@ -39,27 +39,27 @@ correct-row-requires g c =
     }
 
 pub loop-k-preserved : goal.loop-k-preserved
-loop-k-preserved g c = restored_more _ _ _ _ _ c.loop-k.k _ _ c.loop-k.invariant (c.if-not-correct-row.ensures.found refl)
+loop-k-preserved g c = restored_more _ _ _ _ _ c.loop-k.k _ _ c.loop-k.invariant (c.if-not-correct_row.ensures.found refl)
 
-pub returns-then-not-correct-row : goal.returns-then-not-correct-row
-returns-then-not-correct-row g c =
-    let e = c.in-ok-check.ensures in let n = c.args.width in let size = length c.args.rows.now in
+pub returns-then-not-correct_row : goal.returns-then-not-correct_row
+returns-then-not-correct_row g c =
+    let e = c.in_ok-check.ensures in let n = c.args.width in let size = length c.args.rows.now in
     record {
       fault = none_from_verdict _ (e.fault ∙ ap (λ (q : ℕ). verdict (correct_fault q n c.args.checks c.args.marked.now size)) c.order.ensures);
-      corrected = lost_here _ _ _ _ _ c.loop-k.k _ _ (row_inside c.loop-k.k n size e.fits.some c.loop-k-test.true) c.loop-k.invariant (c.if-not-correct-row.ensures.lost refl);
+      corrected = lost_here _ _ _ _ _ c.loop-k.k _ _ (row_inside c.loop-k.k n size e.fits.some c.loop-k-test.true) c.loop-k.invariant (c.if-not-correct_row.ensures.lost refl);
     }
 
-pub returns-in-err-check : goal.returns-in-err-check
-returns-in-err-check g c =
-    let p = err_from_is_err_and c.from-residual.result c.from-residual.ensures.1 in let e = c.in-err-check.ensures in
+pub returns-in_err-check : goal.returns-in_err-check
+returns-in_err-check g c =
+    let p = err_from_is_err_and c.from_residual.result c.from_residual.ensures.1 in let e = c.in_err-check.ensures in
     let q = refused (record { ring = g.F.Ring.ops c.args.field.now; point = g.F.Field.points c.args.field.now }) (g.F.Ring.ops c.args.field.now).order c.args.width c.args.checks
-    c.args.marked.now c.args.rows.now (length c.args.rows.now) c.in-err-check.field-0.0
+    c.args.marked.now c.args.rows.now (length c.args.rows.now) c.in_err-check.field-0.0
     (some_from_verdict _ _ (e.fault ∙ ap (λ (q : ℕ). verdict (correct_fault q c.args.width c.args.checks c.args.marked.now (length c.args.rows.now))) c.order.ensures)) in
     rw (p.1, p.2) (record { fault = q.0; corrected = q.1 })
 
 pub returns : goal.returns
 returns g c =
-    let e = c.in-ok-check.ensures in
+    let e = c.in_ok-check.ensures in
     record {
       fault = none_from_verdict _ (e.fault ∙ ap (λ (q : ℕ). verdict (correct_fault q c.args.width c.args.checks c.args.marked.now (length c.args.rows.now))) c.order.ensures);
       corrected = restored_all _ _ _ _ _ c.loop-k.k _ e.fits.some c.loop-k-test.false c.loop-k.invariant;

@@ -8,7 +8,7 @@ loop-k-init g c = (refl, flagged_none _ _)
 pub loop-k-preserved : goal.loop-k-preserved
 loop-k-preserved g c =
     let h : c.loop-k.k < length c.loop-k.columns = omega arith in
-    (length-set _ _ _ ∙ c.loop-k.invariant.0, flagged_more _ _ c.loop-k.k _ c.loop-k.invariant.1 h c.is-damaged.ensures)
+    (length-set _ _ _ ∙ c.loop-k.invariant.0, flagged_more _ _ c.loop-k.k _ c.loop-k.invariant.1 h c.is_damaged.ensures)
 
 pub returns : goal.returns
 returns g c = flagged_end (omega arith) c.loop-k.invariant.1

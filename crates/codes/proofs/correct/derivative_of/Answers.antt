@@ -10,7 +10,7 @@ pub loop-j-preserved : goal.loop-j-preserved
 loop-j-preserved g c =
     let h : c.loop-j.j < 64 = omega arith in
     updated_more _ _ c.loop-j.j _ _ c.loop-j.invariant h
-    (c.multiple-of.ensures ∙ ap (λ (n : ℕ). multiple (g.R.Ring.ops c.args.ring.now) n (get_or c.args.c.now n 0)) (add-one c.loop-j.j))
+    (c.multiple_of.ensures ∙ ap (λ (n : ℕ). multiple (g.R.Ring.ops c.args.ring.now) n (get_or c.args.c.now n 0)) (add-one c.loop-j.j))
 
 pub returns : goal.returns
 returns g c = updated_end (omega arith) c.loop-j.invariant

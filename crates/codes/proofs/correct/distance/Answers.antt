@@ -7,8 +7,8 @@ pub loop-k-init : goal.loop-k-init
 unfolding count
 loop-k-init c = refl
 
-pub overflow-add-total : goal.overflow-add-total
-overflow-add-total c =
+pub overflow_add-total : goal.overflow_add-total
+overflow_add-total c =
     let t : ℕ → Bool = λ k. not (get_or c.args.tables.now.marks k false || eqb (get_or c.args.a.now k 0) (get_or c.args.b.now k 0)) in
     omega (arith, c.loop-k.invariant, c.differs-total.ensures, count_last c.loop-k.k t, count_most (suc c.loop-k.k) t)
 

@@ -11,9 +11,9 @@ pub loop-k-preserved : goal.loop-k-preserved
 loop-k-preserved g c =
     let o = g.F.Ring.ops c.args.field.now in let t : ℕ → Bool = λ k. get_or c.args.columns.now k false in let p = g.F.Field.points c.args.field.now in let k = c.loop-k.k in
     elim c.if-columns-k.branch [
-      | then-columns-k w ↦ λ j h. ap (λ (cs : List ℕ). get_or cs j 0) w.locator_is
-          ∙ product_more o t p k _ c.loop-k.locator _ w.if-columns-k.true w.point.ensures.value c.loop-k.invariant w.times-factor-locator.ensures j h
-      | else-columns-k w ↦ λ j h. ap (λ (cs : List ℕ). get_or cs j 0) w.locator_is ∙ product_kept o t p k c.loop-k.locator w.if-columns-k.false c.loop-k.invariant j h
+      | then-columns-k w ↦ λ j h. ap (λ (cs : List ℕ). get_or cs j 0) w.locator-is
+          ∙ product_more o t p k _ c.loop-k.locator _ w.if-columns-k.true w.point.ensures.value c.loop-k.invariant w.times_factor-locator.ensures j h
+      | else-columns-k w ↦ λ j h. ap (λ (cs : List ℕ). get_or cs j 0) w.locator-is ∙ product_kept o t p k c.loop-k.locator w.if-columns-k.false c.loop-k.invariant j h
     ]
 
 pub returns : goal.returns

@@ -6,7 +6,7 @@ pub loop-k-init : goal.loop-k-init
 loop-k-init g c = updated_none _ _
 
 pub loop-k-preserved : goal.loop-k-preserved
-loop-k-preserved g c = let h : c.loop-k.k < 256 = omega arith in updated_more _ _ c.loop-k.k _ _ c.loop-k.invariant h c.repaired-symbol.ensures
+loop-k-preserved g c = let h : c.loop-k.k < 256 = omega arith in updated_more _ _ c.loop-k.k _ _ c.loop-k.invariant h c.repaired_symbol.ensures
 
 pub returns : goal.returns
 returns g c = updated_end (omega arith) c.loop-k.invariant

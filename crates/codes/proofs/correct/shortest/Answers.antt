@@ -6,4 +6,4 @@ use Rattle.codes.proofs.correct.shortest.Goals as goal
 pub returns : goal.returns
 returns g c =
     let values = c.args.values.now in let found = c.in-Some.ensures in
-    record { long = omega arith; short = omega (arith, found.0, least_short (at values) (length values) c.in-Some.l (at c.shortest-recurrence.new.c) found.1); shortest = found.1 }
+    record { long = omega arith; short = omega (arith, found.0, least_short (at values) (length values) c.in-Some.l (at c.shortest_recurrence.new.c) found.1); shortest = found.1 }

@@ -8,7 +8,7 @@ loop-k-init g c = product_none _ _ _ _ c.one-locator.ensures.constant c.one-loca
 
 pub loop-k-preserved : goal.loop-k-preserved
 loop-k-preserved g c =
-    product_more (g.R.Ring.ops c.args.ring.now) (λ _. true) (λ k. get_or c.args.points.now k 0) c.loop-k.k _ c.loop-k.locator _ refl refl c.loop-k.invariant c.times-factor-locator.ensures
+    product_more (g.R.Ring.ops c.args.ring.now) (λ _. true) (λ k. get_or c.args.points.now k 0) c.loop-k.k _ c.loop-k.locator _ refl refl c.loop-k.invariant c.times_factor-locator.ensures
 
 pub returns : goal.returns
 returns g c =

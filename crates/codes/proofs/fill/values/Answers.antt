@@ -1,4 +1,4 @@
-use Rattle.std.proofs.Common.{◌≡◌, ℕ, ◌+◌, ◌<◌, get_or, refl, ap, ◌∙◌, subst, arith}
+use Rattle.std.proofs.Common.{◌≡◌, get_or, ap, ◌∙◌, arith}
 use Rattle.basics.proofs.Updating.{get_d_zeros}
 use Rattle.fields.specs.Rings.{entry}
 use Rattle.codes.specs.Fill.{nested}
@@ -11,7 +11,7 @@ unfolding nested
 loop-j-init g c = λ k h. get_d_zeros 64 k
 
 pub loop-j-preserved : goal.loop-j-preserved
-loop-j-preserved g c = λ k h. lanes c.requires c.horner-step-sums.ensures k h ∙ nested_more _ _ _ _ _ (c.loop-j.invariant k h)
+loop-j-preserved g c = λ k h. lanes c.requires c.horner_step-sums.ensures k h ∙ nested_more _ _ _ _ _ (c.loop-j.invariant k h)
 
 pub returns : goal.returns
 returns g c =

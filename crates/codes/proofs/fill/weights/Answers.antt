@@ -1,4 +1,4 @@
-use Rattle.std.proofs.Common.{◌≡◌, ◌<◌, length, ap, ◌∙◌, ap₂, arith}
+use Rattle.std.proofs.Common.{◌<◌, ap, ◌∙◌, arith}
 use Rattle.basics.proofs.Updating.{updated_none, updated_more, updated_end}
 use Rattle.codes.proofs.fill.weights.Goals as goal
 

@@ -1,4 +1,4 @@
-use Rattle.std.proofs.Common.{◌+◌, get_or, replicate}
+use Rattle.std.proofs.Common.{get_or, replicate}
 use Rattle.basics.specs.Lists.{Updated}
 use Rattle.codes.proofs.fill.weights.Given as goal
 

@@ -1,4 +1,4 @@
-use Rattle.std.proofs.Common.{◌≡◌, ◌<◌, ◌≤◌, get_or, sym, ◌∙◌, ap₂, arith}
+use Rattle.std.proofs.Common.{◌≡◌, get_or, sym, ◌∙◌, ap₂, arith}
 use Rattle.std.proofs.lemmas.List.{get_or_past}
 use Rattle.basics.proofs.Updating.{updated_more}
 use Rattle.codes.proofs.poly.add.Goals as goal

@@ -1,4 +1,4 @@
-use Rattle.std.proofs.Common.{◌≡◌, suc, ◌-◌, ◌<◌, ◌∷◌, length, get_or, drop, sym, refl, ap, ◌∙◌, ap₂, arith, drop-cons}
+use Rattle.std.proofs.Common.{◌≡◌, suc, ◌-◌, ◌<◌, ◌∷◌, length, get_or, drop, sym, ap, ◌∙◌, arith, drop-cons}
 use lib.Seq.{drop-length}
 use Rattle.fields.specs.Rings.{sum}
 use Rattle.codes.specs.Poly.{value_at}

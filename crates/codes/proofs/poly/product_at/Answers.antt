@@ -1,4 +1,4 @@
-use Rattle.std.proofs.Common.{◌≡◌, length, sym, ◌∙◌, ap₂, arith}
+use Rattle.std.proofs.Common.{sym, ◌∙◌, ap₂, arith}
 use Rattle.fields.proofs.Lanes.{sum_more}
 use Rattle.codes.proofs.Polys.{product_start, product_all}
 use Rattle.codes.proofs.poly.product_at.Goals as goal

@@ -11,7 +11,7 @@ loop-i-preserved g c =
     let i = c.loop-i.i in let h : i < length c.loop-i.table = omega arith in let few = c.requires.1 in (
       length-set _ _ _ ∙ c.loop-i.invariant.0,
       tabled_more _ _ _ i _ c.loop-i.invariant.1 h
-          (λ j k. lanes few c.powers-of.ensures j k ∙ ap (λ (a : ℕ). power (g.F.Ring.ops c.args.field.now) a (j + 1)) c.point.ensures.value),
+          (λ j k. lanes few c.powers_of.ensures j k ∙ ap (λ (a : ℕ). power (g.F.Ring.ops c.args.field.now) a (j + 1)) c.point.ensures.value),
     )
 
 pub returns : goal.returns
