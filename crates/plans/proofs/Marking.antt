@@ -1,5 +1,5 @@
 -- Lemmas on markings.
-use Rattle.std.proofs.Common.{◌≡◌, ℕ, zero, suc, ◌+◌, ◌-◌, ◌<◌, ◌≤◌, min, max, Bool, true, false, ◌&&◌, ◌||◌, eqb, ltb, leb, ◌⊎◌, List, [], ◌∷◌, ◌++◌, length, get_or, take, drop, set, None, sym, refl, ap, ◌∙◌, inl, inr, le_trans, lt_of_lt_of_le, arith}
+use Rattle.std.proofs.Common.{◌≡◌, ℕ, zero, suc, ◌+◌, ◌-◌, ◌<◌, ◌≤◌, min, max, true, false, ◌&&◌, eqb, ltb, leb, ◌⊎◌, List, [], ◌∷◌, ◌++◌, length, get_or, take, drop, set, None, sym, refl, ap, ◌∙◌, inl, inr, le_trans, arith}
 use native.Mathlib.Nat.{min-eq_left, min-eq_right, max-eq_left, max-eq_right}
 use Rattle.std.proofs.lemmas.List.{drop_more, append_assoc, take_more_set, drop-set-lt}
 use Rattle.std.proofs.lemmas.Bool.{and_parts, and_from, and_right, leb-true, leb-false, ltb-true, eqb-false, le-leb, lt-leb, lt-ltb, ne_eqb, or_parts, or_from, cases_lt}

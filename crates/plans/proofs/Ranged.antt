@@ -1,7 +1,6 @@
 -- An order that is not refused has its numbers in range.
-use Rattle.std.proofs.Common.{◌≡◌, ℕ, ◌-◌, ◌*◌, ◌<◌, ◌≤◌, min, Bool, true, false, ◌||◌, ltb, Some, None, arith}
+use Rattle.std.proofs.Common.{◌≡◌, ℕ, ◌-◌, ◌*◌, ◌≤◌, min, false, ltb, None, arith}
 use Rattle.std.proofs.lemmas.Bool.{ltb-false, or_parts}
-use Rattle.basics.specs.Checks.{check, ◌or_else◌}
 use Rattle.plans.specs.Orders.{order_fault, outside, Ranges}
 use Rattle.plans.specs.declared.numbers.Numbers.{Numbers}
 use Rattle.basics.proofs.Checking.{both_none, check_none}

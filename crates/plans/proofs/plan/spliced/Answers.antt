@@ -1,4 +1,4 @@
-use Rattle.std.proofs.Common.{◌≡◌, ◌<◌, length, sym, refl, ap, ◌∙◌, arith, length-set}
+use Rattle.std.proofs.Common.{◌≡◌, ◌<◌, length, refl, ◌∙◌, arith, length-set}
 use Rattle.plans.proofs.Marking.{spliced_more, spliced_all}
 use Rattle.plans.proofs.plan.spliced.Goals as goal
 

@@ -6,17 +6,17 @@ use Rattle.plans.specs.Marks.{wrong_column}
 use Rattle.plans.specs.declared.fault.MarkingFault.TheVariants.{Column}
 use Rattle.plans.proofs.numbers.Numbers.check_columns.Goals as goal
 
-pub returns-in-err-check-column : goal.returns-in-err-check-column
-returns-in-err-check-column c =
+pub returns-in_err-check_column : goal.returns-in_err-check_column
+returns-in_err-check_column c =
     let xs = c.args.marking.now in let at = λ (i : ℕ). check (wrong_column c.args.self.now.columns xs i) (Column i) in
-    let p = err_from_is_err_and c.from-residual.result c.from-residual.ensures.1 in
+    let p = err_from_is_err_and c.from_residual.result c.from_residual.ensures.1 in
     p.1 ∙ ap Err p.2
-    ∙ ap verdict (sym (c.loop-i.invariant ∙ lowest_stop at (length xs) c.loop-i.i _ c.loop-i-test.true (some_from_verdict (at c.loop-i.i) _ c.in-err-check-column.ensures)))
+    ∙ ap verdict (sym (c.loop-i.invariant ∙ lowest_stop at (length xs) c.loop-i.i _ c.loop-i-test.true (some_from_verdict (at c.loop-i.i) _ c.in_err-check_column.ensures)))
 
 pub loop-i-preserved : goal.loop-i-preserved
 loop-i-preserved c =
     let xs = c.args.marking.now in let at = λ (i : ℕ). check (wrong_column c.args.self.now.columns xs i) (Column i) in
-    c.loop-i.invariant ∙ lowest_more at (length xs) c.loop-i.i c.loop-i-test.true (none_from_verdict (at c.loop-i.i) c.in-ok-check-column.ensures)
+    c.loop-i.invariant ∙ lowest_more at (length xs) c.loop-i.i c.loop-i-test.true (none_from_verdict (at c.loop-i.i) c.in_ok-check_column.ensures)
 
 pub returns : goal.returns
 returns c =

@@ -13,6 +13,6 @@ returns c =
     let few : length ms ≤ p.checks = omega arith in let room : length ms ≤ 64 = omega arith in
     let short : ltb (min 64 p.checks) (length ms) ≡ false = le-ltb _ _ (omega arith) in
     record {
-      fault = c.check-columns.ensures ∙ ap (λ b. verdict (check b Long or_else columns_fault p.columns ms)) (sym short);
-      fits = made_verdict (columns_fault p.columns ms) (FitsMarking p ms) c.check-columns.ensures (fits_marking p ms room few);
+      fault = c.check_columns.ensures ∙ ap (λ b. verdict (check b Long or_else columns_fault p.columns ms)) (sym short);
+      fits = made_verdict (columns_fault p.columns ms) (FitsMarking p ms) c.check_columns.ensures (fits_marking p ms room few);
     }
