@@ -1,17 +1,17 @@
 -- What a run keeps since the last accepted write.
-use Rattle.std.proofs.Common.{◌≡◌, ℕ, zero, suc, ◌+◌, ◌-◌, ◌*◌, ◌/◌, ◌%◌, ◌<◌, ◌≤◌, min, max, Bool, true, false, cond, not, ◌&&◌, ◌||◌, eqb, ltb, leb, ◌≢◌, ◌⊎◌, List, [], ◌∷◌, length, get_or, set, Some, None, Option, sym, refl, ap, ◌∙◌, subst, ap₂, inl, inr, arith, length-set}
+use Rattle.std.proofs.Common.{◌≡◌, ℕ, ◌+◌, ◌-◌, ◌%◌, ◌<◌, ◌≤◌, Bool, true, false, cond, not, leb, ◌≢◌, List, length, get_or, set, Some, None, Option, sym, refl, ap, ◌∙◌, subst, inl, inr, arith, length-set}
 use Rattle.std.proofs.lemmas.Nat.{mul-add-lt, mod-mul-add}
 use Rattle.std.proofs.lemmas.List.{get_or-set_same, get_or-set_other}
-use Rattle.std.proofs.lemmas.Bool.{cases_Bool, cases_eq, leb-false, eqb-true, eqb-false, or_parts, not-false, both_ways}
+use Rattle.std.proofs.lemmas.Bool.{cases_eq, leb-false, or_parts, not-false, both_ways}
 use Rattle.fields.specs.Rings.{RingLaws, Inverses, Points}
 use Rattle.algebra.specs.Rows.{among}
-use Rattle.basics.specs.Checks.{check, ◌or_else◌, lowest}
+use Rattle.basics.specs.Checks.{check}
 use Rattle.plans.specs.Marks.{inserted}
 use Rattle.plans.specs.declared.fault.Refusal.{Refusal}
 use Rattle.plans.specs.Orders.{Ranges}
 use Rattle.rules.specs.Pages.{Setup, State, Buffers, q, n, cell_count, contents, Holds}
-use Rattle.rules.specs.Reach.{dead, PageReach, lowered, risen}
-use Rattle.rules.specs.Calls.{Call, Event, event, write, mark, raise, jolt, read, scrub, refused, done, counted, brought, fault, handed, placed, place, Refuses, Leaves, Decodes, unfound, found, Passes, Follows, Step}
+use Rattle.rules.specs.Reach.{dead, lowered, risen}
+use Rattle.rules.specs.Calls.{Call, Event, event, write, mark, raise, jolt, read, scrub, refused, done, counted, brought, fault, handed, placed, place, Leaves, Decodes, unfound, found, Passes, Follows, Step}
 use Rattle.rules.specs.Runs.{Run, Since, wrote, marked, raised, jolted, was_read, scrubbed, rejected}
 use Rattle.rules.specs.declared.fault.PageFault.{PageFault}
 use Rattle.rules.specs.declared.fault.PageFault.TheVariants.{Place, Dead, Alive}

@@ -1,11 +1,11 @@
 -- What correcting the rows of an ordered page came to.
-use Rattle.std.proofs.Common.{◌≡◌, ℕ, suc, ◌+◌, ◌-◌, ◌*◌, ◌%◌, ◌<◌, ◌≤◌, min, true, false, not, ◌||◌, eqb, ltb, List, length, get_or, Some, None, Option, sym, refl, ap, ◌∙◌, subst, ap₂, inl, inr, add-mul, arith}
+use Rattle.std.proofs.Common.{◌≡◌, ℕ, ◌+◌, ◌-◌, ◌*◌, ◌%◌, ◌<◌, ◌≤◌, min, true, false, not, ◌||◌, eqb, ltb, List, length, None, ◌∙◌, subst, inl, inr, arith}
 use native.Mathlib.Nat.{mul-mod_left}
 use Rattle.std.proofs.lemmas.Nat.{mul-le}
 use Rattle.std.proofs.lemmas.Bool.{le-ltb, eq-eqb, or_from, not_from_true, cases_lt}
 use Rattle.basics.proofs.Checking.{check_false, first_passes, others_pass}
 use Rattle.algebra.specs.Rows.{rising}
-use Rattle.codes.specs.Correct.{correct_fault, refusal, CorrectedRows, LostRow, Left}
+use Rattle.codes.specs.Correct.{correct_fault, refusal, CorrectedRows, Left}
 use Rattle.codes.specs.declared.correct.CorrectFault.{CorrectFault}
 use Rattle.codes.specs.declared.correct.CorrectFault.TheVariants.{Width, Checks, Marking, Length, Lost}
 use Rattle.plans.specs.Orders.{Ranges}

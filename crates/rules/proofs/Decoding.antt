@@ -1,5 +1,5 @@
 -- The rows of the cells, decoded, make the page that is found, or its refusal.
-use Rattle.std.proofs.Common.{◌≡◌, ℕ, suc, ◌+◌, ◌-◌, ◌*◌, ◌/◌, ◌%◌, ◌<◌, ◌≤◌, Bool, true, false, cond, ◌⊎◌, List, length, get_or, Some, None, sym, refl, ap, ◌∙◌, subst, ap₂, inl, inr, mod-lt, mod-eq_of_lt, arith}
+use Rattle.std.proofs.Common.{◌≡◌, ℕ, ◌+◌, ◌-◌, ◌*◌, ◌/◌, ◌%◌, ◌<◌, ◌≤◌, Bool, true, false, cond, ◌⊎◌, List, length, get_or, Some, None, sym, ap, ◌∙◌, subst, ap₂, inl, inr, mod-lt, mod-eq_of_lt, arith}
 use lib.Arith.{digits_lt, digits_mod}
 use Rattle.std.proofs.lemmas.List.FromFn.{length-map-range_with_len}
 use Rattle.std.proofs.lemmas.List.{get_or-map, length-map, ext_get_or}
@@ -13,7 +13,7 @@ use Rattle.algebra.specs.Rows.{CloseRow, taken_row, among}
 use Rattle.codes.proofs.Rowing.{get_d_part}
 use Rattle.plans.specs.Orders.{Ranges}
 use Rattle.rules.specs.Pages.{Setup, State, tabled, symbols_of, q, n, r, cell_count}
-use Rattle.rules.specs.Reach.{levels, dead, drift, lowered, Close, RowReach, PageReach, none_close, not_risen, Found, Unfound}
+use Rattle.rules.specs.Reach.{levels, dead, drift, lowered, Close, RowReach, none_close, not_risen, Found, Unfound}
 use Rattle.rules.specs.Views.{Readable, CorrectedTo, row_drift, settled_at}
 use Rattle.rules.specs.declared.fault.PageFault.{PageFault}
 use Rattle.rules.specs.declared.fault.PageFault.TheVariants.{Lost}

@@ -1,5 +1,5 @@
 -- The first columns: they rise, and the check columns of a page can be filled.
-use Rattle.std.proofs.Common.{◌≡◌, ℕ, zero, suc, ◌+◌, ◌-◌, ◌*◌, ◌%◌, ◌<◌, ◌≤◌, min, true, false, not, ◌||◌, eqb, ltb, List, length, get_or, take, replicate, None, Result, sym, refl, ap, ◌∙◌, subst, ap₂, inl, inr, add-one, arith, MatchResult}
+use Rattle.std.proofs.Common.{◌≡◌, ℕ, zero, suc, ◌+◌, ◌-◌, ◌*◌, ◌%◌, ◌<◌, ◌≤◌, min, true, false, not, ◌||◌, eqb, ltb, List, length, take, replicate, None, Result, sym, refl, ap, ◌∙◌, subst, ap₂, inl, inr, add-one, arith, MatchResult}
 use native.Mathlib.Nat.{mul-mod_left, sub-zero}
 use Rattle.std.specs.List.{range_with_len}
 use Rattle.std.proofs.lemmas.Result.{MatchResult-at_ok}

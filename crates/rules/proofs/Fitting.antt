@@ -1,5 +1,5 @@
 -- What holds where nothing stands against a write, a read or a scrub.
-use Rattle.std.proofs.Common.{◌≡◌, ℕ, ◌+◌, ◌-◌, ◌*◌, ◌<◌, ◌≤◌, Bool, not, ◌&&◌, leb, List, length, get_or, None, sym, ap, ◌∙◌, ap₂, arith}
+use Rattle.std.proofs.Common.{◌≡◌, ℕ, ◌-◌, ◌≤◌, Bool, not, ◌&&◌, leb, List, length, get_or, None, sym, ap, ◌∙◌, ap₂, arith}
 use Rattle.std.proofs.lemmas.Nat.{mul-le}
 use Rattle.std.proofs.lemmas.Bool.{leb-false}
 use Rattle.basics.specs.Checks.{lowest, ◌or_else◌}

@@ -1,18 +1,18 @@
 -- What is in reach is one page, and decoding finds it.
-use Rattle.std.proofs.Common.{◌≡◌, ℕ, zero, suc, ◌+◌, ◌-◌, ◌*◌, ◌/◌, ◌%◌, ◌<◌, ◌≤◌, Bool, true, false, cond, not, ◌&&◌, ◌||◌, eqb, ltb, leb, ◌⊎◌, List, [], ◌∷◌, map, length, get_or, Some, None, Option, sym, refl, ap, ◌∙◌, subst, ap₂, inl, inr, arith}
+use Rattle.std.proofs.Common.{◌≡◌, ℕ, ◌+◌, ◌-◌, ◌*◌, ◌/◌, ◌%◌, ◌<◌, Bool, true, false, cond, not, ◌&&◌, leb, List, length, get_or, None, sym, refl, ap, ◌∙◌, subst, ap₂, inl, inr, arith}
 use native.Mathlib.Nat.{mod-mod, div-eq_of_lt}
 use Rattle.std.proofs.lemmas.Nat.{mod_below}
 use Rattle.std.proofs.lemmas.List.{get_or-map, length-map}
-use Rattle.std.proofs.lemmas.Bool.{cases_Bool, cases_order, lt-leb, le-ltb}
+use Rattle.std.proofs.lemmas.Bool.{cases_order, lt-leb, le-ltb}
 use Rattle.basics.specs.Checks.{check, ◌or_else◌, lowest}
 use Rattle.basics.specs.Lists.{row_of}
 use Rattle.basics.proofs.Checking.{none_lowest}
 use Rattle.fields.specs.Rings.{RingLaws, Inverses, Points}
-use Rattle.algebra.specs.Rows.{CodeRow, among, differing}
+use Rattle.algebra.specs.Rows.{among}
 use Rattle.algebra.proofs.Distance.{one_code_row}
 use Rattle.codes.proofs.Rowing.{get_d_part}
 use Rattle.plans.specs.Orders.{Ranges}
-use Rattle.rules.specs.Pages.{Setup, State, Buffers, tabled, symbols_of, q, n, r, cell_count, symbol_count, cell_of, contents}
+use Rattle.rules.specs.Pages.{Setup, State, symbols_of, q, n, r, cell_count, symbol_count, cell_of, contents}
 use Rattle.rules.specs.Reach.{levels, dead, RowReach, PageReach, lowered, blanked, Close, drift, drift_fault, RowFault, none_close, not_risen, Found, Unfound}
 use Rattle.rules.specs.Calls.{reading_fault}
 use Rattle.rules.specs.declared.fault.PageFault.{PageFault}

@@ -1,9 +1,9 @@
 -- What reading rests on: the page in reach is read, nothing else is, and marked cells are not seen.
-use Rattle.std.proofs.Common.{◌≡◌, ℕ, ◌+◌, ◌*◌, ◌%◌, ◌<◌, ◌≤◌, Bool, true, false, not, ◌&&◌, ◌||◌, eqb, ltb, ◌⊎◌, List, length, get_or, Some, None, Option, sym, refl, ap, ◌∙◌, subst, ap₂, inl, inr, arith}
+use Rattle.std.proofs.Common.{◌≡◌, ℕ, ◌+◌, ◌*◌, ◌%◌, ◌<◌, Bool, true, false, not, ◌&&◌, ltb, ◌⊎◌, List, length, get_or, Some, None, Option, sym, refl, ap, ◌∙◌, subst, ap₂, inl, inr, arith}
 use lib.Arith.{digits_mod}
 use Rattle.std.proofs.lemmas.List.{get_or-map, length-map}
-use Rattle.std.proofs.lemmas.Bool.{eq-eqb, not_from_true, cases_Bool}
-use Rattle.basics.specs.Checks.{check, ◌or_else◌, lowest}
+use Rattle.std.proofs.lemmas.Bool.{eq-eqb}
+use Rattle.basics.specs.Checks.{check, ◌or_else◌}
 use Rattle.basics.specs.Lists.{row_of}
 use Rattle.basics.proofs.Checking.{check_false, first_passes, others_pass, lowest_same}
 use Rattle.fields.specs.Rings.{RingLaws, Inverses, Points}
@@ -13,12 +13,12 @@ use Rattle.codes.proofs.Rowing.{get_d_part}
 use Rattle.plans.specs.Orders.{Ranges, order_fault}
 use Rattle.plans.proofs.Ranged.{ranges}
 use Rattle.rules.specs.Pages.{Setup, State, Buffers, symbols_of, q, n, r, cell_count, contents}
-use Rattle.rules.specs.Reach.{dead, drift, lowered, blanked, drifted, risen, Close, RowReach, PageReach, far_fault, under_fault, drift_fault, RowFault, none_close, not_risen, Found, Unfound}
-use Rattle.rules.specs.Calls.{Answer, refused, counted, Call, read, Event, event, numbers_fault, handed, buffers_fault, reading_fault, fault, Refuses, Leaves, Decodes, unfound, found, Follows, Step}
+use Rattle.rules.specs.Reach.{drift, lowered, drifted, risen, Close, RowReach, PageReach, far_fault, under_fault, drift_fault, RowFault, none_close, not_risen, Found, Unfound}
+use Rattle.rules.specs.Calls.{Answer, counted, read, Event, event, numbers_fault, handed, buffers_fault, fault, Refuses, Leaves, Decodes, unfound, found, Follows, Step}
 use Rattle.rules.specs.Laws.{Alike, ReadsAs, Readings}
 use Rattle.rules.specs.declared.fault.PageFault.{PageFault}
-use Rattle.rules.specs.declared.fault.PageFault.TheVariants.{Order, Length, Far, Under}
-use Rattle.rules.proofs.Reaching.{one_page, found_is, never_unfound, one_fault, readings_fine, contents_lowered}
+use Rattle.rules.specs.declared.fault.PageFault.TheVariants.{Order, Far, Under}
+use Rattle.rules.proofs.Reaching.{found_is, never_unfound, one_fault, readings_fine, contents_lowered}
 use Rattle.rules.proofs.Writing.{row_width}
 
 -- a check of a place that looks only where it is unmarked

@@ -1,7 +1,7 @@
 -- The law of runs.
-use Rattle.std.proofs.Common.{◌≡◌, ℕ, ◌+◌, Bool, List, None, sym, ap, ◌∙◌, subst}
+use Rattle.std.proofs.Common.{ℕ, ◌+◌, Bool, List, sym, ap, ◌∙◌, subst}
 use Rattle.fields.specs.Rings.{RingLaws, Inverses, Points}
-use Rattle.plans.specs.Orders.{Ranges, order_fault}
+use Rattle.plans.specs.Orders.{Ranges}
 use Rattle.plans.proofs.Ranged.{ranges}
 use Rattle.rules.specs.Pages.{Setup, State, Buffers, q, contents}
 use Rattle.rules.specs.Reach.{PageReach, blanked, drifted, risen}

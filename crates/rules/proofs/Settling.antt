@@ -1,10 +1,10 @@
 -- From a code row that is close enough, and drifts that are none too great, to levels in reach.
-use Rattle.std.proofs.Common.{◌≡◌, ℕ, zero, suc, ◌+◌, ◌-◌, ◌*◌, ◌/◌, ◌%◌, ◌<◌, ◌≤◌, Bool, true, false, cond, not, ◌&&◌, ◌||◌, eqb, ltb, List, map, length, get_or, Some, None, sym, refl, ap, ◌∙◌, subst, ap₂, mod-eq_of_lt, zero-add, arith}
+use Rattle.std.proofs.Common.{◌≡◌, ℕ, zero, suc, ◌+◌, ◌-◌, ◌*◌, ◌/◌, ◌%◌, ◌<◌, ◌≤◌, Bool, true, false, cond, not, ◌&&◌, ◌||◌, eqb, ltb, List, length, get_or, None, sym, refl, ap, ◌∙◌, subst, mod-eq_of_lt, zero-add, arith}
 use native.Mathlib.Nat.{div-add-mod, add-mul-mod_self_left}
 use Rattle.std.proofs.lemmas.Nat.{mul-le}
 use Rattle.std.proofs.lemmas.List.{get_or-map, length-map, ext_get_or}
 use Rattle.std.proofs.lemmas.Bool.{ltb-false, or_parts, not-true, eqb-false, ne_eqb, or_from, not_from_false, both_ways}
-use Rattle.basics.specs.Checks.{check, ◌or_else◌, lowest}
+use Rattle.basics.specs.Checks.{check, lowest}
 use Rattle.basics.proofs.Checking.{both_none, check_none, lowest_none}
 use Rattle.algebra.specs.Rows.{count, CodeRow, among, differing}
 use Rattle.algebra.proofs.Count.{differing_count}

@@ -1,5 +1,5 @@
 -- A write leaves the one page of levels that has its contents and code rows.
-use Rattle.std.proofs.Common.{◌≡◌, ℕ, ◌+◌, ◌-◌, ◌*◌, ◌/◌, ◌%◌, ◌<◌, ◌≤◌, true, false, cond, ltb, List, map, length, get_or, take, drop, sym, refl, ap, ◌∙◌, subst, ap₂, add-mul, div-add-mod', arith}
+use Rattle.std.proofs.Common.{◌≡◌, ℕ, ◌+◌, ◌*◌, ◌/◌, ◌%◌, ◌<◌, ◌≤◌, List, length, get_or, sym, ap, ◌∙◌, subst, ap₂, add-mul, div-add-mod', arith}
 use lib.Arith.{digits_lt}
 use Rattle.std.specs.List.{range_with_len}
 use Rattle.std.proofs.lemmas.Nat.{mul-le}
@@ -7,8 +7,8 @@ use Rattle.std.proofs.lemmas.List.FromFn.{length-range_with_len, fill_by_all, ge
 use Rattle.std.proofs.lemmas.List.{get_or-map, length-map, ext_get_or}
 use Rattle.std.proofs.lemmas.Bool.Decides.{nat_tests}
 use Rattle.basics.specs.Lists.{Updated, row_of}
-use Rattle.fields.specs.Rings.{FieldOps, taken}
-use Rattle.algebra.specs.Rows.{CodeRow, Filled, FillOf, among}
+use Rattle.fields.specs.Rings.{taken}
+use Rattle.algebra.specs.Rows.{CodeRow, Filled}
 use Rattle.codes.specs.Fill.{FilledRows}
 use Rattle.codes.proofs.Rowing.{get_d_part, length_part}
 use Rattle.plans.specs.Orders.{Ranges}

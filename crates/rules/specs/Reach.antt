@@ -1,5 +1,5 @@
 -- Which page of levels cells are in reach of, and why cells are refused that are in reach of none.
-use Rattle.std.specs.Prelude.{◌≡◌, ℕ, zero, suc, ◌+◌, ◌-◌, ◌*◌, ◌/◌, ◌%◌, ◌<◌, ◌≤◌, Bool, true, false, cond, not, ◌&&◌, List, length, Some, Option, nat_lt, slice_index}
+use Rattle.std.specs.Prelude.{◌≡◌, ℕ, zero, suc, ◌+◌, ◌-◌, ◌*◌, ◌%◌, ◌<◌, ◌≤◌, Bool, false, cond, not, ◌&&◌, List, length, Some, Option, nat_lt, slice_index}
 use Rattle.basics.specs.Checks.{check, ◌or_else◌, lowest}
 use Rattle.basics.specs.Lists.{row_of}
 use Rattle.algebra.specs.Rows.{CodeRow, CloseRow, among, differing}
