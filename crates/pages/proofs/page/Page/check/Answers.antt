@@ -2,9 +2,9 @@ use Rattle.std.proofs.Common.{rules}
 use Rattle.rules.specs.Calls.{numbers_fault}
 use Rattle.pages.proofs.page.Page.check.Goals as goal
 
-pub returns-in-err-check : goal.returns-in-err-check
+pub returns-in_err-check : goal.returns-in_err-check
 unfolding numbers_fault
-returns-in-err-check g c = search rules
+returns-in_err-check g c = search rules
 
 pub returns : goal.returns
 unfolding numbers_fault

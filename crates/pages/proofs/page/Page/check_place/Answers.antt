@@ -10,6 +10,6 @@ returns g c =
     let column : c.args.column < m.columns = subst (λ (n : Numbers). c.args.column < n.columns) same (omega arith) in
     record {
       fault = search rules;
-      inside = omega (arith, mul-add-lt c.args.row m.columns c.args.column m.rows row column, c.in-ok-check-cells.ensures.size);
+      inside = omega (arith, mul-add-lt c.args.row m.columns c.args.column m.rows row column, c.in_ok-check_cells.ensures.size);
       ranges = search rules;
     }

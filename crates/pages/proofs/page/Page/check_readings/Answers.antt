@@ -7,17 +7,17 @@ use Rattle.rules.specs.Views.{state}
 use Rattle.pages.specs.Views.{over}
 use Rattle.pages.proofs.page.Page.check_readings.Goals as goal
 
-pub returns-in-err-check-reading : goal.returns-in-err-check-reading
-returns-in-err-check-reading g c =
+pub returns-in_err-check_reading : goal.returns-in_err-check_reading
+returns-in_err-check_reading g c =
     let xs = c.args.cells.now in let at = reading_fault (over g.F.Ring.ops g.F.Field.points c.args.self.now) (state c.args.self.now.plan xs) in
-    let p = err_from_is_err_and c.from-residual.result c.from-residual.ensures.1 in
+    let p = err_from_is_err_and c.from_residual.result c.from_residual.ensures.1 in
     p.1 ∙ ap Err p.2
-    ∙ ap verdict (sym (c.loop-i.invariant ∙ lowest_stop at (length xs) c.loop-i.i _ c.loop-i-test.true (some_from_verdict (at c.loop-i.i) _ c.in-err-check-reading.ensures)))
+    ∙ ap verdict (sym (c.loop-i.invariant ∙ lowest_stop at (length xs) c.loop-i.i _ c.loop-i-test.true (some_from_verdict (at c.loop-i.i) _ c.in_err-check_reading.ensures)))
 
 pub loop-i-preserved : goal.loop-i-preserved
 loop-i-preserved g c =
     let xs = c.args.cells.now in let at = reading_fault (over g.F.Ring.ops g.F.Field.points c.args.self.now) (state c.args.self.now.plan xs) in
-    c.loop-i.invariant ∙ lowest_more at (length xs) c.loop-i.i c.loop-i-test.true (none_from_verdict (at c.loop-i.i) c.in-ok-check-reading.ensures)
+    c.loop-i.invariant ∙ lowest_more at (length xs) c.loop-i.i c.loop-i-test.true (none_from_verdict (at c.loop-i.i) c.in_ok-check_reading.ensures)
 
 pub returns : goal.returns
 returns g c =

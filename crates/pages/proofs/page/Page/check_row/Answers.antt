@@ -1,4 +1,4 @@
-use Rattle.std.proofs.Common.{◌≡◌, ◌*◌, List, length, sym, ap, ◌∙◌, ap₂, arith}
+use Rattle.std.proofs.Common.{◌*◌, List, length, sym, ap, ◌∙◌, ap₂, arith}
 use Rattle.basics.specs.Checks.{verdict}
 use Rattle.codes.proofs.Rowing.{length_part}
 use Rattle.rules.specs.Reach.{drift_fault}
@@ -15,8 +15,8 @@ pub row-symbols-requires : goal.row-symbols-requires
 row-symbols-requires g c =
     let p = over g.F.Ring.ops g.F.Field.points c.args.self.now in omega (arith, row_fits p c.args.k c.requires.row, c.requires.page)
 
-pub check-drift-requires : goal.check-drift-requires
-check-drift-requires g c =
+pub check_drift-requires : goal.check_drift-requires
+check_drift-requires g c =
     let p = over g.F.Ring.ops g.F.Field.points c.args.self.now in let k = c.args.k in let m = p.numbers.columns in
     let fit = row_fits p k c.requires.row in
     let readings = ap length c.row-readings.ensures ∙ length_part m (k * m) c.args.cells.now (omega (arith, fit, c.requires.cells)) in
@@ -26,4 +26,4 @@ check-drift-requires g c =
 pub returns : goal.returns
 returns g c =
     let p = over g.F.Ring.ops g.F.Field.points c.args.self.now in
-    c.check-drift.ensures ∙ ap₂ (λ (ys cs : List _). verdict (drift_fault p (marking c.args.self.now.plan) c.args.k ys cs)) c.row-readings.ensures c.row-symbols.ensures
+    c.check_drift.ensures ∙ ap₂ (λ (ys cs : List _). verdict (drift_fault p (marking c.args.self.now.plan) c.args.k ys cs)) c.row-readings.ensures c.row-symbols.ensures

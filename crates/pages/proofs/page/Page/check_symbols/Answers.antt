@@ -6,17 +6,17 @@ use Rattle.rules.specs.Calls.{symbol_fault}
 use Rattle.pages.specs.Views.{over}
 use Rattle.pages.proofs.page.Page.check_symbols.Goals as goal
 
-pub returns-in-err-check-symbol : goal.returns-in-err-check-symbol
-returns-in-err-check-symbol g c =
+pub returns-in_err-check_symbol : goal.returns-in_err-check_symbol
+returns-in_err-check_symbol g c =
     let xs = c.args.symbols.now in let at = symbol_fault (over g.F.Ring.ops g.F.Field.points c.args.self.now) xs in
-    let p = err_from_is_err_and c.from-residual.result c.from-residual.ensures.1 in
+    let p = err_from_is_err_and c.from_residual.result c.from_residual.ensures.1 in
     p.1 ∙ ap Err p.2
-    ∙ ap verdict (sym (c.loop-j.invariant ∙ lowest_stop at (length xs) c.loop-j.j _ c.loop-j-test.true (some_from_verdict (at c.loop-j.j) _ c.in-err-check-symbol.ensures)))
+    ∙ ap verdict (sym (c.loop-j.invariant ∙ lowest_stop at (length xs) c.loop-j.j _ c.loop-j-test.true (some_from_verdict (at c.loop-j.j) _ c.in_err-check_symbol.ensures)))
 
 pub loop-j-preserved : goal.loop-j-preserved
 loop-j-preserved g c =
     let xs = c.args.symbols.now in let at = symbol_fault (over g.F.Ring.ops g.F.Field.points c.args.self.now) xs in
-    c.loop-j.invariant ∙ lowest_more at (length xs) c.loop-j.j c.loop-j-test.true (none_from_verdict (at c.loop-j.j) c.in-ok-check-symbol.ensures)
+    c.loop-j.invariant ∙ lowest_more at (length xs) c.loop-j.j c.loop-j-test.true (none_from_verdict (at c.loop-j.j) c.in_ok-check_symbol.ensures)
 
 pub returns : goal.returns
 returns g c =

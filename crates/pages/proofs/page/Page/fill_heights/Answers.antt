@@ -1,4 +1,4 @@
-use Rattle.std.proofs.Common.{ℕ, ◌/◌, get_or, arith}
+use Rattle.std.proofs.Common.{◌/◌, get_or, arith}
 use Rattle.std.proofs.lemmas.List.FromFn.{fill_by_all}
 use Rattle.rules.specs.Pages.{q, cell_count}
 use Rattle.pages.specs.Views.{over}

@@ -1,4 +1,4 @@
-use Rattle.std.proofs.Common.{◌≡◌, ℕ, ◌-◌, ◌≤◌, min, cond, ltb, length, get_or, sym, refl, ap, ◌∙◌, arith}
+use Rattle.std.proofs.Common.{◌≡◌, ℕ, ◌-◌, min, cond, ltb, get_or, sym, ap, ◌∙◌, arith}
 use Rattle.rules.specs.Reach.{dead, total}
 use Rattle.rules.specs.Pages.{cell_count}
 use Rattle.rules.specs.Views.{marking}
@@ -13,8 +13,8 @@ loop-i-init g c = (omega arith, omega arith, sym (total_empty _), sym (total_emp
 pub rise-above-requires : goal.rise-above-requires
 rise-above-requires g c = record { ranges = c.requires.ranges; cells = c.loop-i-test.true; page = omega (arith, c.requires.cells, c.requires.page); marks = c.requires.marks }
 
-pub overflow-add-risen : goal.overflow-add-risen
-overflow-add-risen g c = let p = over g.F.Ring.ops g.F.Field.points c.args.self.now in omega (arith, c.requires.cells, few_cells p c.requires.ranges)
+pub overflow_add-risen : goal.overflow_add-risen
+overflow_add-risen g c = let p = over g.F.Ring.ops g.F.Field.points c.args.self.now in omega (arith, c.requires.cells, few_cells p c.requires.ranges)
 
 pub loop-i-preserved : goal.loop-i-preserved
 loop-i-preserved g c =

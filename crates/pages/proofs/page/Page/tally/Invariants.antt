@@ -1,4 +1,4 @@
-use Rattle.std.proofs.Common.{◌≡◌, ℕ, ◌-◌, ◌*◌, ◌≤◌, cond, ltb, get_or}
+use Rattle.std.proofs.Common.{◌≡◌, ◌-◌, ◌*◌, ◌≤◌, cond, ltb, get_or}
 use Rattle.rules.specs.Reach.{dead, total}
 use Rattle.rules.specs.Views.{marking}
 use Rattle.pages.specs.Views.{over}
