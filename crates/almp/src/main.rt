@@ -1,18 +1,24 @@
 // Runs a page script, from the file that is named as the one argument or from standard input, and prints an answer for each command.
+#![tactic(auto)]
+
 mod bench;
 
 use anyhow::anyhow;
 use bench::Bench;
 use std::fs::File;
 use std::io::{BufRead, BufReader};
+use std::process::ExitCode;
 use std::{env, io};
 
-fn main(rt: HostRuntime) -> anyhow::Result<()> {
-    let ended = run(&rt);
-    if let Err(error) = &ended {
-        eprintln!(rt; "almp: {error}")?;
+fn main(rt: HostRuntime) -> ExitCode {
+    match run(&rt) {
+        Ok(()) => ExitCode::SUCCESS,
+        Err(error) => {
+            // where standard error takes nothing either, the status alone tells it
+            let _ = eprintln!(rt; "almp: {error}");
+            ExitCode::FAILURE
+        }
     }
-    ended
 }
 
 fn run(rt: &HostRuntime) -> anyhow::Result<()> {

@@ -1,6 +1,6 @@
-use Rattle.std.proofs.Common.{◌≡◌, ◌+◌, ◌-◌, ◌<◌, [], length, get_or, vec_items, sym, ap, ◌∙◌, arith}
+use Rattle.std.proofs.Common.{◌≡◌, ◌+◌, ◌-◌, ◌<◌, [], length, get_or, sym, ap, ◌∙◌, arith}
 use Rattle.scripts.specs.Script.{number_of}
-use Rattle.scripts.specs.Commands.{texts, part, AreNumbers}
+use Rattle.scripts.specs.Commands.{texts}
 use Rattle.scripts.proofs.Parts.{length_texts, text_at, numbers_more}
 use Rattle.scripts.proofs.command.numbers.Goals as goal
 
@@ -18,7 +18,7 @@ loop-i-preserved c =
     let ws = c.args.words.now in
     let within : c.loop-i.i < length ws = omega (arith, c.requires) in
     let is = ap number_of (text_at ws c.loop-i.i _ within) ∙ sym c.number.ensures ∙ c.in-Some.is in
-    rw c.in-ok-push.ensures.items (numbers_more (texts ws) c.args.start c.loop-i.i _ _ c.loop-i.auto.i (omega (arith, length_texts ws)) is c.loop-i.invariant)
+    rw c.in_ok-push-in-Some.ensures.items (numbers_more (texts ws) c.args.start c.loop-i.i _ _ c.loop-i.auto.i (omega (arith, length_texts ws)) is c.loop-i.invariant)
 
 pub returns : goal.returns
 returns c =

@@ -14,23 +14,23 @@ returns-then-words-ne3 c =
 pub numbers-requires : goal.numbers-requires
 numbers-requires c = (omega (arith, c.if-words-ne3.false), omega arith)
 
-pub returns-in-err-lengths : goal.returns-in-err-lengths
-returns-in-err-lengths c =
+pub returns-in_err-lengths : goal.returns-in_err-lengths
+returns-in_err-lengths c =
     let ws = c.args.words.now in
-    bad_understood ws 1 (length ws) _ _ c.from-residual.ensures.1 (omega arith) (omega arith) (other_command (texts ws) (codes "read") 1 (length ws) (λ e. omega arith) c.requires.1) c.in-err-lengths.ensures
+    bad_understood ws 1 (length ws) _ _ c.from_residual.ensures.1 (omega arith) (omega arith) (other_command (texts ws) (codes "read") 1 (length ws) (λ e. omega arith) c.requires.1) c.in_err-lengths.ensures
 
-pub read-into-requires : goal.read-into-requires
-read-into-requires c =
+pub read_into-requires : goal.read_into-requires
+read_into-requires c =
     let ws = c.args.words.now in
-    ap length c.as-slice.ensures.value
-    ∙ numbers_length _ _ (numbers_rest ws 1 _ c.in-ok-lengths.ensures)
+    ap length c.as_slice.ensures.value
+    ∙ numbers_length _ _ (numbers_rest ws 1 _ c.in_ok-lengths.ensures)
     ∙ omega (arith, length-drop 1 (texts ws), length_texts ws, c.if-words-ne3.false)
 
 pub returns : goal.returns
 returns c =
     let ws = c.args.words.now in
-    let ns = c.as-slice.result.now in
-    let told = c.as-slice.ensures.value in
-    let h = numbers_rest ws 1 _ c.in-ok-lengths.ensures in
+    let ns = c.as_slice.result.now in
+    let told = c.as_slice.ensures.value in
+    let h = numbers_rest ws 1 _ c.in_ok-lengths.ensures in
     let many = ap length told ∙ numbers_length _ _ h ∙ length-drop 1 (texts ws) in
-    rw c.read-into.ensures (c.requires, h ∙ ap (map Some) (sym told ∙ sym (two ns (omega (arith, length_texts ws, c.if-words-ne3.false)))))
+    rw c.read_into.ensures (c.requires, h ∙ ap (map Some) (sym told ∙ sym (two ns (omega (arith, length_texts ws, c.if-words-ne3.false)))))

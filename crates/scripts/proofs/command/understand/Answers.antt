@@ -2,8 +2,8 @@ use Rattle.std.proofs.Common.{[], None}
 use Rattle.scripts.proofs.Parts.{first_named, begins}
 use Rattle.scripts.proofs.command.understand.Goals as goal
 
-pub returns-in-default : goal.returns-in-default
-returns-in-default c = first_named c.args.words.now (record { ref_ptr = (0, 0); now = [] }) c.requires None c.in-default.ensures
+pub returns-in_default : goal.returns-in_default
+returns-in_default c = first_named c.args.words.now (record { ref_ptr = (0, 0); now = [] }) c.requires None c.in_default.ensures
 
 pub order-requires : goal.order-requires
 order-requires c = begins c.args.words.now _ c.requires _ _ c.in-Order.is c.in-Some.ensures

@@ -1,5 +1,4 @@
-use Rattle.std.proofs.Common.{◌≡◌, ◌+◌, ◌≤◌, length, arith}
-use Rattle.scripts.specs.Script.{place}
+use Rattle.std.proofs.Common.{arith}
 use Rattle.scripts.proofs.Lines.{place_here, place_on, place_end}
 use Rattle.scripts.proofs.words.count_before.Goals as goal
 

@@ -6,17 +6,17 @@ use Rattle.scripts.proofs.words.split_word.Goals as goal
 pub returns-in-Some : goal.returns-in-Some
 returns-in-Some c =
     let text = c.args.text.now in
-    let count = c.count-before.ensures.value in
+    let count = c.count_before.ensures.value in
     record {
-      word = c.split-at.ensures.front ∙ ap (λ n. take n text) count;
-      rest = past_one text _ (place 32 text) (c.split-at.ensures.back ∙ ap (λ n. drop n text) count) _ _ c.in-Some.ensures.cases.0;
+      word = c.split_at.ensures.front ∙ ap (λ n. take n text) count;
+      rest = past_one text _ (place 32 text) (c.split_at.ensures.back ∙ ap (λ n. drop n text) count) _ _ c.in-Some.ensures.cases.0;
     }
 
 pub returns-in-None : goal.returns-in-None
 returns-in-None c =
     let text = c.args.text.now in
-    let count = c.count-before.ensures.value in
+    let count = c.count_before.ensures.value in
     record {
-      word = c.split-at.ensures.front ∙ ap (λ n. take n text) count;
-      rest = past_all text _ (place 32 text) (c.split-at.ensures.back ∙ ap (λ n. drop n text) count) c.in-None.ensures.cases;
+      word = c.split_at.ensures.front ∙ ap (λ n. take n text) count;
+      rest = past_all text _ (place 32 text) (c.split_at.ensures.back ∙ ap (λ n. drop n text) count) c.in-None.ensures.cases;
     }
