@@ -1,4 +1,6 @@
 // A maker's own field, that none of the kinds is: order 9. The number a + 3b stands for a + bt, where t × t = 2, modulo 3.
+#![tactic(auto)]
+
 ghost use Rattle.std.specs.Prelude.{◌≡◌, ◌<◌};
 ghost use Rattle.fields.specs.Rings.{taken};
 ghost use Rattle.nine.specs.Nines.{nine, inverse_of, point_of};

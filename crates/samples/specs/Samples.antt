@@ -5,7 +5,7 @@ use Rattle.algebra.specs.Rows.{CodeRow}
 use Rattle.plans.specs.Orders.{order_fault}
 use Rattle.plans.specs.declared.numbers.Numbers.{Numbers}
 use Rattle.plans.specs.declared.fault.OrderFault.TheVariants.{Columns, Checks, Heights, Drift}
-use Rattle.rules.specs.Pages.{Setup, State, Buffers, Holds, contents}
+use Rattle.rules.specs.Pages.{Setup, Buffers, Holds, contents}
 use Rattle.rules.specs.Reach.{drifted, risen, Found, Unfound}
 use Rattle.rules.specs.Refusals.{page_refusal}
 use Rattle.rules.specs.Views.{field_of, of_kind}

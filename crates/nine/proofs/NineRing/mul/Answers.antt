@@ -2,13 +2,13 @@ use Rattle.std.proofs.Common.{◌/◌, ◌%◌, arith}
 use Rattle.std.proofs.lemmas.Nat.{mul-le}
 use Rattle.nine.proofs.NineRing.mul.Goals as goal
 
-pub overflow-mul-result-3 : goal.overflow-mul-result-3
-overflow-mul-result-3 c =
+pub overflow_mul-result-3 : goal.overflow_mul-result-3
+overflow_mul-result-3 c =
     let x = c.reduced-x.result in let y = c.reduced-y.result in
     omega (arith, mul-le (x / 3) (y / 3) 2 2 (omega (arith, c.reduced-x.ensures.inside)) (omega (arith, c.reduced-y.ensures.inside)))
 
-pub overflow-add-result : goal.overflow-add-result
-overflow-add-result c =
+pub overflow_add-result : goal.overflow_add-result
+overflow_add-result c =
     let x = c.reduced-x.result in let y = c.reduced-y.result in
     omega (
       arith,
@@ -16,8 +16,8 @@ overflow-add-result c =
       mul-le (x / 3) (y / 3) 2 2 (omega (arith, c.reduced-x.ensures.inside)) (omega (arith, c.reduced-y.ensures.inside)),
     )
 
-pub overflow-add-result-2 : goal.overflow-add-result-2
-overflow-add-result-2 c =
+pub overflow_add-result-2 : goal.overflow_add-result-2
+overflow_add-result-2 c =
     let x = c.reduced-x.result in let y = c.reduced-y.result in
     omega (
       arith,
