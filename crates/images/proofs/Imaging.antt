@@ -1,8 +1,6 @@
 -- An image block by block.
-use Rattle.std.proofs.Common.{◌≡◌, ℕ, zero, suc, ◌+◌, ◌-◌, ◌*◌, ◌/◌, ◌%◌, ◌<◌, ◌≤◌, List, length, get_or, sym, refl, ap, ◌∙◌, ap₂, inl, inr, mul_comm, add-one, arith}
-use lib.Arith.{digits_div, digits_mod}
+use Rattle.std.proofs.Common.{◌≡◌, ℕ, ◌+◌, ◌-◌, ◌*◌, ◌/◌, ◌%◌, ◌<◌, List, length, get_or, sym, ap, ◌∙◌, ap₂, inl, inr, add-one, arith}
 use Rattle.std.proofs.lemmas.Bool.{cases_lt}
-use Rattle.rules.specs.Pages.{tabled}
 use Rattle.images.specs.Format.{Stored, words_at, head_at, plain_at, sealed_at, image_at, image_size, image_of}
 use Rattle.images.specs.Saving.{BlockSet, LevelsSet}
 use Rattle.images.proofs.Sealing.{tabled_is}

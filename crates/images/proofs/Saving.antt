@@ -1,16 +1,15 @@
 -- Saving a whole image: no put of it is refused, and nor is its close.
-use Rattle.std.proofs.Common.{◌≡◌, ℕ, ◌+◌, ◌*◌, ◌<◌, ◌≤◌, not, eqb, List, length, Some, None, Ok, Err, Option, Result, sym, refl, ap, ◌∙◌, subst, arith}
+use Rattle.std.proofs.Common.{◌≡◌, ℕ, ◌+◌, ◌*◌, ◌<◌, ◌≤◌, not, eqb, List, None, Ok, Result, sym, ap, ◌∙◌, subst}
 use Rattle.std.proofs.lemmas.Bool.{eq-eqb, eqb-true, lt-leb, le-ltb, not-false}
-use Rattle.basics.specs.Checks.{check, ◌or_else◌, told, verdict}
+use Rattle.basics.specs.Checks.{check, told}
 use Rattle.basics.proofs.Checking.{both_none, check_none, check_false, others_pass, first_passes}
 use Rattle.rules.specs.Pages.{Setup}
 use Rattle.rules.specs.Calls.{numbers_fault}
-use Rattle.rules.specs.declared.fault.Buffer.TheVariants.{Cells, Image}
+use Rattle.rules.specs.declared.fault.Buffer.TheVariants.{Cells}
 use Rattle.rules.specs.declared.fault.PageFault.TheVariants.{Length}
-use Rattle.images.specs.Format.{Stored, blocks_of_levels, cell_count, image_size, image_of}
-use Rattle.images.specs.Saving.{OrKept, begin_fault, image_fault, put_fault, close_fault, closed, save_fault}
-use Rattle.images.specs.declared.fault.SaveFault.{SaveFault}
-use Rattle.images.specs.declared.fault.SaveFault.TheVariants.{Page, Full, Early}
+use Rattle.images.specs.Format.{blocks_of_levels, cell_count, image_size}
+use Rattle.images.specs.Saving.{OrKept, begin_fault, image_fault, put_fault, close_fault, save_fault}
+use Rattle.images.specs.declared.fault.SaveFault.TheVariants.{Page}
 
 -- a buffer as long as the image
 pub image_fine : (cells size : ℕ) → size ≡ 512 * (1 + blocks_of_levels cells) → image_fault cells size ≡ None

@@ -1,5 +1,5 @@
 -- What opening an image comes to, and what an opened one gives.
-use Rattle.std.specs.Prelude.{◌≡◌, ℕ, not, List, Option, ◌==◌, nat_le}
+use Rattle.std.specs.Prelude.{◌≡◌, ℕ, not, Option, ◌==◌, nat_le}
 use Rattle.basics.specs.Checks.{check, ◌or_else◌}
 use Rattle.fields.specs.declared.kind.KindField.{KindField}
 use Rattle.rules.specs.Pages.{Setup}

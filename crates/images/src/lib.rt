@@ -1,4 +1,6 @@
 // Images: a page with its cells as blocks of 512 bytes, opened and written.
+#![tactic(auto)]
+
 pub mod block;
 pub mod fault;
 pub mod open;

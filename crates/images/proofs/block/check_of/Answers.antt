@@ -1,4 +1,4 @@
-use Rattle.std.proofs.Common.{◌≡◌, ℕ, ◌+◌, ◌*◌, ◌≤◌, get_or, sym, ap, ◌∙◌, arith}
+use Rattle.std.proofs.Common.{◌≡◌, ℕ, ◌+◌, ◌*◌, ◌≤◌, get_or, ap, ◌∙◌, arith}
 use Rattle.std.proofs.lemmas.Nat.{mul-le}
 use Rattle.rules.specs.Reach.{total}
 use Rattle.rules.proofs.Drifts.{total_more, total_empty}
@@ -12,8 +12,8 @@ small j x h l = mul-le (j + 1) x 508 255 h l
 pub loop-j-init : goal.loop-j-init
 loop-j-init c = (omega (arith, total_empty (λ j. (j + 1) * get_or c.args.block.now j 0)), omega arith)
 
-pub overflow-add-sum-in-loop-j-2 : goal.overflow-add-sum-in-loop-j-2
-overflow-add-sum-in-loop-j-2 c = omega (arith, small c.loop-j.j (get_or c.args.block.now c.loop-j.j 0) (omega arith) (omega arith))
+pub overflow_add-sum-in-loop-j-2 : goal.overflow_add-sum-in-loop-j-2
+overflow_add-sum-in-loop-j-2 c = omega (arith, small c.loop-j.j (get_or c.args.block.now c.loop-j.j 0) (omega arith) (omega arith))
 
 pub loop-j-preserved : goal.loop-j-preserved
 loop-j-preserved c = (

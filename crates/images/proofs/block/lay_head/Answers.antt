@@ -8,10 +8,10 @@ pub loop-j-init : goal.loop-j-init
 loop-j-init c = updated_none _ _
 
 pub loop-j-preserved : goal.loop-j-preserved
-loop-j-preserved c = updated_more _ _ c.loop-j.j _ _ c.loop-j.invariant (omega (arith, c.requires.long)) c.head-byte.ensures
+loop-j-preserved c = updated_more _ _ c.loop-j.j _ _ c.loop-j.invariant (omega (arith, c.requires.long)) c.head_byte.ensures
 
 pub returns : goal.returns
 unfolding head_at
 returns c =
     subst (λ (hs : List ℕ). Updated 508 (λ j. cond (ltb j 16) (get_or hs j 0) (words_at c.args.marked.now (j - 16))) c.args.block.now c.loop-j.block)
-    c.head-bytes-head.ensures (updated_end (omega arith) c.loop-j.invariant)
+    c.head_bytes-head.ensures (updated_end (omega arith) c.loop-j.invariant)

@@ -6,7 +6,7 @@ pub loop-j-init : goal.loop-j-init
 loop-j-init c = updated_none _ _
 
 pub loop-j-preserved : goal.loop-j-preserved
-loop-j-preserved c = updated_more _ _ c.loop-j.j _ _ c.loop-j.invariant (omega (arith, c.requires.long)) c.byte-of.ensures
+loop-j-preserved c = updated_more _ _ c.loop-j.j _ _ c.loop-j.invariant (omega (arith, c.requires.long)) c.byte_of.ensures
 
 pub returns : goal.returns
 returns c = updated_end (omega arith) c.loop-j.invariant

@@ -4,4 +4,4 @@ use Rattle.images.proofs.Sealing.{sealed_set}
 use Rattle.images.proofs.block.seal.Goals as goal
 
 pub returns : goal.returns
-returns c = sealed_set c.args.b c.args.block.now c.to-le-bytes-bytes.result c.requires.long (c.to-le-bytes-bytes.ensures ∙ ap four_bytes c.check-of.ensures)
+returns c = sealed_set c.args.b c.args.block.now c.to_le_bytes-bytes.result c.requires.long (c.to_le_bytes-bytes.ensures ∙ ap four_bytes c.check_of.ensures)

@@ -7,5 +7,5 @@ use Rattle.images.proofs.save.save.Given as goal
 -- the blocks that were put are those of the image
 abbrev pub invariant-loop-block : goal.invariant-loop-block
 invariant-loop-block l =
-    (l.begun.put ≡ l.-block) × (l.begun.cells ≡ length l.cells) × (l.begun.spent ≡ false) × (length l.image ≡ 512 * (1 + blocks_of_levels (length l.cells)))
-    × Begins (stored l.page.field.kind l.page.plan l.cells) (1 + l.-block) l.image
+    (l.begun.put ≡ l._block) × (l.begun.cells ≡ length l.cells) × (l.begun.spent ≡ false) × (length l.image ≡ 512 * (1 + blocks_of_levels (length l.cells)))
+    × Begins (stored l.page.field.kind l.page.plan l.cells) (1 + l._block) l.image

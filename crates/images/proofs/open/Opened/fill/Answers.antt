@@ -1,4 +1,4 @@
-use Rattle.std.proofs.Common.{◌≡◌, length, arith}
+use Rattle.std.proofs.Common.{length, arith}
 use Rattle.basics.proofs.Updating.{updated_none, updated_more}
 use Rattle.images.proofs.Sealing.{tabled_is}
 use Rattle.images.proofs.open.Opened.fill.Goals as goal

@@ -1,4 +1,4 @@
-use Rattle.std.proofs.Common.{◌≡◌, ◌*◌, ◌/◌, ◌≤◌, IfOk, Err, sym, ap, ◌∙◌, subst, arith}
+use Rattle.std.proofs.Common.{◌/◌, ◌≤◌, IfOk, Err, sym, ap, ◌∙◌, subst}
 use Rattle.std.proofs.lemmas.Result.{err_from_is_err_and}
 use Rattle.basics.specs.Checks.{lowest, told, fault_of}
 use Rattle.basics.proofs.Checking.{both_none, first_passes, none_from_verdict}
@@ -11,31 +11,31 @@ use Rattle.images.specs.declared.fault.ImageFault.TheVariants.{Header}
 use Rattle.images.proofs.Opening.{told_none, few_cells, some_of_two}
 use Rattle.images.proofs.open.Raw.check.Goals as goal
 
-pub returns-in-err-page : goal.returns-in-err-page
-returns-in-err-page c =
+pub returns-in_err-page : goal.returns-in_err-page
+returns-in_err-page c =
     let at = bytes_at c.args.self.now.bytes in let size = c.args.self.now.size in
-    let x = err_from_is_err_and c.from-residual-in-err-page.result c.from-residual-in-err-page.ensures.1 in
+    let x = err_from_is_err_and c.from_residual-in_err-page.result c.from_residual-in_err-page.ensures.1 in
     let r = x.1 ∙ ap Err x.2 in
     record {
       fault = ap fault_of r ∙ sym (
-          first_passes _ _ (none_from_verdict _ c.in-ok-check-size.ensures.fault) ∙ first_passes (lowest 0 (size / 512) (seal_fault at)) _ (none_from_verdict _ c.in-ok-check-seals.ensures)
-          ∙ first_passes (lowest 0 5 (word_fault at)) _ (none_from_verdict _ c.in-ok-check-word.ensures) ∙ some_of_two (told Header (kind_fault (at 5) (numbers_in at))) _ _ _ (sym c.in-err-page.ensures.fault)
+          first_passes _ _ (none_from_verdict _ c.in_ok-check_size.ensures.fault) ∙ first_passes (lowest 0 (size / 512) (seal_fault at)) _ (none_from_verdict _ c.in_ok-check_seals.ensures)
+          ∙ first_passes (lowest 0 5 (word_fault at)) _ (none_from_verdict _ c.in_ok-check_word.ensures) ∙ some_of_two (told Header (kind_fault (at 5) (numbers_in at))) _ _ _ (sym c.in_err-page.ensures.fault)
           );
       page = subst (λ v. IfOk v (Shows at)) (sym r) tt;
     }
 
-pub check-blocks-requires : goal.check-blocks-requires
-check-blocks-requires c =
-    let at = bytes_at c.args.self.now.bytes in let p = c.in-ok-page.ensures in
+pub check_blocks-requires : goal.check_blocks-requires
+check_blocks-requires c =
+    let at = bytes_at c.args.self.now.bytes in let p = c.in_ok-page.ensures in
     let e = c.numbers-numbers.ensures ∙ p.page.numbers in
     subst (λ (m : Numbers). cell_count m ≤ 8192) (sym e) (few_cells (at 5) (numbers_in at) (told_none Header _ (both_none _ _ (sym p.fault)).0))
 
-pub check-filler-requires : goal.check-filler-requires
-check-filler-requires c =
-    let at = bytes_at c.args.self.now.bytes in let p = c.in-ok-page.ensures in
+pub check_filler-requires : goal.check_filler-requires
+check_filler-requires c =
+    let at = bytes_at c.args.self.now.bytes in let p = c.in_ok-page.ensures in
     let e = c.numbers-numbers.ensures ∙ p.page.numbers in
     record {
       cells = ap cell_count e;
       few = subst (λ (m : Numbers). cell_count m ≤ 8192) (sym e) (few_cells (at 5) (numbers_in at) (told_none Header _ (both_none _ _ (sym p.fault)).0));
-      size = c.in-ok-check-size.ensures.few;
+      size = c.in_ok-check_size.ensures.few;
     }

@@ -1,6 +1,6 @@
-use Rattle.std.proofs.Common.{◌≡◌, ℕ, length, replicate, ◌∙◌, arith}
+use Rattle.std.proofs.Common.{◌≡◌, ℕ, ◌∙◌, arith}
 use Rattle.std.proofs.lemmas.List.{length-replicate}
-use Rattle.basics.proofs.Updating.{updated_none, updated_more, updated_end}
+use Rattle.basics.proofs.Updating.{updated_none, updated_more}
 use Rattle.images.proofs.Sealing.{tabled_is}
 use Rattle.images.proofs.open.Raw.columns.Goals as goal
 
