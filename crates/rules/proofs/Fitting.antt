@@ -8,7 +8,7 @@ use Rattle.plans.specs.Orders.{Ranges}
 use Rattle.rules.specs.Pages.{Setup, State, Buffers, q, cell_count, symbol_count}
 use Rattle.rules.specs.Calls.{write, read, scrub, fault, handed, buffers_fault, symbol_fault, height_fault, reading_fault}
 use Rattle.rules.specs.Reach.{levels}
-use Rattle.rules.specs.Views.{FitsWrite, FitsCells}
+use Rattle.rules.specs.Views.{FitsWrite, FitsRead, FitsCells}
 
 module _ (p : Setup) (g : Ranges (q p) p.numbers) where
   -- a page has few cells, and fewer symbols
@@ -38,6 +38,11 @@ module _ (p : Setup) (g : Ranges (q p) p.numbers) where
           ∙ check_none _ _ (lowest_none (reading_fault p s) (length s.cells) 0 i e (omega arith) (omega arith)));
     };
   }
+
+  pub fits_read : (s : State) (b : Buffers) → length s.cells ≡ cell_count p → length b.symbols ≡ symbol_count p → length b.heights ≡ cell_count p
+      → lowest 0 (length s.cells) (reading_fault p s) ≡ None → FitsRead p s b
+  fits_read s b c m h e =
+      record { ranges = g; cells_fit = c; symbols_fit = m; heights_fit = h; readable = (fits_cells s c e).readable }
 
 -- where the lengths fit, the readings decide
 pub read_fault : (p : Setup) (s : State) (b : Buffers) → handed p s ≡ None → buffers_fault p b ≡ None → length s.cells ≡ cell_count p

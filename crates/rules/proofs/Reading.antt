@@ -18,7 +18,7 @@ use Rattle.rules.specs.Calls.{Answer, counted, read, Event, event, numbers_fault
 use Rattle.rules.specs.Laws.{Alike, ReadsAs, Readings}
 use Rattle.rules.specs.declared.fault.PageFault.{PageFault}
 use Rattle.rules.specs.declared.fault.PageFault.TheVariants.{Order, Far, Under}
-use Rattle.rules.proofs.Reaching.{found_is, never_unfound, one_fault, readings_fine, contents_lowered}
+use Rattle.rules.proofs.Reaching.{one_page, found_is, never_unfound, one_fault, readings_fine, contents_lowered}
 use Rattle.rules.proofs.Writing.{row_width}
 
 -- a check of a place that looks only where it is unmarked
@@ -148,6 +148,7 @@ module _ (p : Setup) (inv : ℕ → ℕ) (laws : RingLaws p.field.ring) (is : In
 
   pub readings : Readings p
   readings = record {
+    one_page = one_page p inv laws is ps rg;
     reads = answers;
     only_reads = λ s t b u d k step. let w = only_found p s t b u d k step in (w.0, w.1.reach);
     one_fault = one_fault p inv laws is ps rg;

@@ -19,6 +19,8 @@ module _ (p : Setup) where
     pub filled : u ≡ blanked p s.marking (contents p xs)
 
   pub record Readings : Type 0 where
+    -- never two pages: under one marking the cells are in reach of no two different ones
+    pub one_page : (ms ys xs zs : List ℕ) → PageReach p ms ys xs → PageReach p ms ys zs → lowered p ms xs ≡ lowered p ms zs
     -- where the cells are in reach of a page, a read with fitting buffers is accepted and answers it
     pub reads : (s t : State) (b u : Buffers) (w : Answer) (xs : List ℕ) → PageReach p s.marking s.cells xs → buffers_fault p b ≡ None
         → Step p (event s (read b) w u t) → ReadsAs s xs w u

@@ -77,17 +77,19 @@ level_at q heights symbols i = slice_index heights i * q + slice_index symbols i
 pub record Readable (p : Setup) (s : State) : Type 0 where
   pub below : (i : ℕ) → i < length s.cells → dead p s.marking i ≡ false → slice_index s.cells i < levels p
 
--- what holds where nothing stands against a scrub, but for what decoding says
+-- what holds where nothing stands against a read, but for what decoding says
+pub record FitsRead (p : Setup) (s : State) (b : Buffers) : Type 0 where
+  pub ranges : Ranges (q p) p.numbers
+  pub cells_fit : length s.cells ≡ cell_count p
+  pub symbols_fit : length b.symbols ≡ symbol_count p
+  pub heights_fit : length b.heights ≡ cell_count p
+  pub readable : Readable p s
+
+-- and against a scrub
 pub record FitsCells (p : Setup) (s : State) : Type 0 where
   pub ranges : Ranges (q p) p.numbers
   pub cells_fit : length s.cells ≡ cell_count p
   pub readable : Readable p s
-
--- and what holds against a read
-pub record FitsRead (p : Setup) (s : State) (b : Buffers) : Type 0 where
-  pub cells : FitsCells p s
-  pub symbols_fit : length b.symbols ≡ symbol_count p
-  pub heights_fit : length b.heights ≡ cell_count p
 
 -- the rows below row good are the code rows that are close enough; if it is a row of the page, no code row is close enough to it
 pub record CorrectedTo (p : Setup) (ms : List ℕ) (good : ℕ) (xs ys : List ℕ) : Type 0 where

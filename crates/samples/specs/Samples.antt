@@ -8,7 +8,7 @@ use Rattle.plans.specs.declared.fault.OrderFault.TheVariants.{Columns, Checks, H
 use Rattle.rules.specs.Pages.{Setup, Buffers, Holds, contents}
 use Rattle.rules.specs.Reach.{drifted, risen, Found, Unfound}
 use Rattle.rules.specs.Refusals.{page_refusal}
-use Rattle.rules.specs.Views.{field_of, of_kind}
+use Rattle.rules.specs.Views.{field_of, of_kind as page}
 use Rattle.rules.specs.Calls.{Call, raise, scrub, Answer, refused, done, counted, event, brought, Step}
 use Rattle.rules.specs.declared.fault.PageFault.{PageFault}
 use Rattle.rules.specs.declared.fault.PageFault.TheVariants.{Lost, Far, Under}
@@ -19,7 +19,7 @@ numbers n r rows h d = record { columns = n; checks = r; rows = rows; heights = 
 
 -- a page of kind 1 with n = 4, r = 2, one row, H = 15 and drift bound D
 abbrev pub small : ℕ → Setup
-small d = of_kind 1 (numbers 4 2 1 15 d)
+small d = page 1 (numbers 4 2 1 15 d)
 
 -- the message symbols ms give the code row cs: it is a code row with r checks, and holds them after its check columns
 pub record Gives (k r : ℕ) (ms cs : List ℕ) : Type 0 where
@@ -49,7 +49,7 @@ pub record Samples : Type 0 where
   -- with one row, H = 15 and heights 2, 0, 14, 3 the cells of symbols 1, 0 are 44, 5, 239, 51
   pub cells : Holds (small 16) (record { symbols = 1 ∷ 0 ∷ []; heights = 2 ∷ 0 ∷ 14 ∷ 3 ∷ [] }) (44 ∷ 5 ∷ 239 ∷ 51 ∷ [])
   -- kind 5, n = 3, r = 2, H = 16: the cells of symbol 1 with heights 0 are 8, 6, 1
-  pub binary_cells : Holds (of_kind 5 (numbers 3 2 1 16 15)) (record { symbols = 1 ∷ []; heights = 0 ∷ 0 ∷ 0 ∷ [] }) (8 ∷ 6 ∷ 1 ∷ [])
+  pub binary_cells : Holds (page 5 (numbers 3 2 1 16 15)) (record { symbols = 1 ∷ []; heights = 0 ∷ 0 ∷ 0 ∷ [] }) (8 ∷ 6 ∷ 1 ∷ [])
   -- in kind 5, 2 × 9 = 1
   pub binary_product : (ops_of 5).mul 2 9 ≡ 1
   -- in kind 1, n = 16 is ordered and 17 is not; H = 240 is and 241 is not; D = 17 and n = r are not
@@ -77,7 +77,7 @@ pub record Samples : Type 0 where
   -- column 0 marked, column 1 risen by 1 to 6: no code row is close enough, refused by 22 at row 0
   pub marked_refused : RefusedBy (small 16) (0 ∷ []) (44 ∷ 6 ∷ 239 ∷ 51 ∷ []) (Lost 0) 22 0 0
   -- kind 5, n = 3, r = 2, one row, H = 16, D = 15, column 1 risen by 3 to 9: the page 8, 6, 1 is found, and the pair 1, 3
-  pub binary_read : ReadsTo (of_kind 5 (numbers 3 2 1 16 15)) [] (8 ∷ 9 ∷ 1 ∷ []) (8 ∷ 6 ∷ 1 ∷ [])
+  pub binary_read : ReadsTo (page 5 (numbers 3 2 1 16 15)) [] (8 ∷ 9 ∷ 1 ∷ []) (8 ∷ 6 ∷ 1 ∷ [])
       (record { symbols = 1 ∷ []; heights = 0 ∷ 0 ∷ 0 ∷ [] }) 1 3
   -- in the cells 44, 5, 239, 51 column 2 is raised by 15, to 254, which reads back as above; by 16 it would rise above 254, the highest
   -- level: refused by 19 at 0, 2, and no cell moves

@@ -4,7 +4,7 @@ use Rattle.basics.proofs.Checking.{none_from_verdict, made_verdict}
 use Rattle.rules.specs.Calls.{reading_fault}
 use Rattle.rules.specs.Views.{state, buffers, FitsRead}
 use Rattle.pages.specs.Views.{over}
-use Rattle.rules.proofs.Fitting.{few_cells, fits_cells, read_fault}
+use Rattle.rules.proofs.Fitting.{few_cells, fits_read, read_fault}
 use Rattle.pages.proofs.page.Page.check_read.Goals as goal
 
 pub check_readings-requires : goal.check_readings-requires
@@ -21,5 +21,5 @@ returns g c =
     record {
       fault = c.check_readings.ensures ∙ ap verdict (sym (read_fault p s b (none_from_verdict _ cells.fault) (none_from_verdict _ sizes.fault) cells.size));
       fits = made_verdict found (FitsRead p s b) c.check_readings.ensures
-          (λ e. record { cells = fits_cells p cells.ranges s cells.size e; symbols_fit = sizes.sizes.0; heights_fit = sizes.sizes.1 });
+          (fits_read p cells.ranges s b cells.size sizes.sizes.0 sizes.sizes.1);
     }

@@ -9,7 +9,7 @@ use Rattle.pages.proofs.page.Page.read.Goals as goal
 
 pub slice_bounds-levels-end : goal.slice_bounds-levels-end
 slice_bounds-levels-end g c =
-    let p = over g.F.Ring.ops g.F.Field.points c.args.self.now in let f = c.in_ok-check_read.ensures.fits.cells in
+    let p = over g.F.Ring.ops g.F.Field.points c.args.self.now in let f = c.in_ok-check_read.ensures.fits in
     omega (arith, few_cells p f.ranges, f.cells_fit)
 
 pub returns-in_err-decode : goal.returns-in_err-decode
