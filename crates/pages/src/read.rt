@@ -391,10 +391,10 @@ impl<F: Field + Drop> Page<F> {
         let marks = flags(self.plan.marking());
         self.check_scrub(&marks, cells)?;
         let mut levels = [0; 8192];
-        let page = &mut levels[0..cells.len()];
-        self.decode(&marks, cells, page)?;
-        let pair = self.tally(&marks, cells, page);
-        cells.copy_from_slice(page);
+        let decoded = &mut levels[0..cells.len()];
+        self.decode(&marks, cells, decoded)?;
+        let pair = self.tally(&marks, cells, decoded);
+        cells.copy_from_slice(decoded);
         Ok(pair)
     }
 }
