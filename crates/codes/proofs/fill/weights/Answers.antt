@@ -8,7 +8,7 @@ loop-k-init g c = updated_none _ _
 pub loop-k-preserved : goal.loop-k-preserved
 loop-k-preserved g c =
     let h : c.loop-k.k < 64 = omega arith in
-    updated_more _ _ c.loop-k.k _ _ c.loop-k.invariant h (c.neg.ensures ∙ ap (g.F.Ring.ops c.args.field.now).neg (c.inverse.ensures.value ∙ ap (g.F.Field.inv c.args.field.now) c.mul.ensures))
+    updated_more _ _ c.loop-k.k _ _ c.loop-k.invariant h (cc)
 
 pub returns : goal.returns
 returns g c = updated_end (omega arith) c.loop-k.invariant
