@@ -3,6 +3,9 @@ use Rattle.std.specs.Prelude.{◌≡◌, ℕ, zero, suc, ◌<◌, ◌≤◌, T, 
 use Rattle.std.proofs.Common.{sym, ap, ◌∙◌, subst, arith, lit≤, lit<}
 use Rattle.fields.specs.Rings.{RingLaws, taken}
 use Rattle.fields.specs.Kinds.{ops_of, order_of, generator_of, times_x, product, Powers, Logarithms, InverseTable}
+use Rattle.fields.specs.declared.kind.KindField.{KindField}
+use Rattle.fields.specs.declared.kind.KindField.TheVariants.{Prime17, Prime31, Prime127, Prime257, Binary16, Binary64, Binary256}
+use Rattle.fields.specs.Numbered.{number_of}
 use Rattle.fields.specs.Prime.{laws as prime_laws}
 use Rattle.fields.specs.Binary.{laws as binary_laws}
 use Rattle.fields.specs.Tested.{powers_test, table_test, is_log, is_inverse, powers_of, logs_of, inverses_of}
@@ -18,6 +21,16 @@ each P a b c d e f g (suc (suc (suc (suc (suc zero))))) l h = e
 each P a b c d e f g (suc (suc (suc (suc (suc (suc zero)))))) l h = f
 each P a b c d e f g (suc (suc (suc (suc (suc (suc (suc zero))))))) l h = g
 each P a b c d e f g (suc (suc (suc (suc (suc (suc (suc (suc k)))))))) l h = absurd (omega arith)
+
+-- the kind numbers are from 1 to 7
+pub number_in : (f : KindField) → (1 ≤ number_of f) × (number_of f ≤ 7)
+number_in Prime17 = (lit≤ tt, lit≤ tt)
+number_in Prime31 = (lit≤ tt, lit≤ tt)
+number_in Prime127 = (lit≤ tt, lit≤ tt)
+number_in Prime257 = (lit≤ tt, lit≤ tt)
+number_in Binary16 = (lit≤ tt, lit≤ tt)
+number_in Binary64 = (lit≤ tt, lit≤ tt)
+number_in Binary256 = (lit≤ tt, lit≤ tt)
 
 pub laws : (k : ℕ) → (1 ≤ k) × (k ≤ 7) → RingLaws (ops_of k)
 unfolding product times_x

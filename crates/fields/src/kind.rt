@@ -1,106 +1,132 @@
 // The seven fields that come with the part, by a kind number from 1 to 7.
-ghost use Rattle.std.specs.Prelude.{◌≡◌, ℕ, ◌+◌, ◌<◌, ◌≤◌, Ok, Err, nat_lt};
+ghost use Rattle.std.specs.Prelude.{◌≡◌, ℕ, ◌+◌, ◌<◌, ◌≤◌, nat_lt};
 ghost use Rattle.fields.specs.Rings.{taken, power as power_of};
-ghost use Rattle.fields.specs.Kinds.{order_of, ops_of, generator_of, inverse_of, point_of, Powers, Logarithms, InverseTable};
-ghost use Rattle.fields.specs.Seven.{laws};
+ghost use Rattle.fields.specs.Kinds.{order_of, ops_of, generator_of, inverse_of, point_of, Powers};
+ghost use Rattle.fields.specs.Numbered.{number_of, NumberedBy, LookedUp};
+ghost use Rattle.fields.specs.Seven.{laws, number_in};
 
-use crate::{Field, Ring, tables};
+use crate::{Field, Ring, reduced, tables};
 
-// 1 to 4: whole numbers modulo 17, 31, 127 and 257. 5 to 7: binary polynomials modulo 0x13, 0x43 and 0x11D.
-#[derive(Clone, Copy, Debug)]
-pub struct KindField {
-    kind: u8,
-    ghost ok: { (1 ≤ kind) × (kind ≤ 7) },
+// Kinds 1 to 4: whole numbers modulo 17, 31, 127 and 257. 5 to 7: binary polynomials modulo 0x13, 0x43 and 0x11D.
+#[derive(Clone, Copy, PartialEq, Eq, Debug)]
+pub enum KindField {
+    Prime17,
+    Prime31,
+    Prime127,
+    Prime257,
+    Binary16,
+    Binary64,
+    Binary256,
 }
 
 // A number that is no kind.
-#[derive(Clone, Copy, Debug)]
+#[derive(Clone, Copy, PartialEq, Eq, Debug)]
 pub struct UnknownKind {
     pub kind: u16,
 }
 
-const ORDERS: [u16; 8] = [0, 17, 31, 127, 257, 16, 64, 256];
+// What the products and inverses of a kind are looked up in.
+enum Lookup {
+    Inverses(&'static [u16]),
+    Logarithms(&'static [u16]),
+}
+
+impl TryFrom<u16> for KindField {
+    type Error = UnknownKind;
+
+    ghost try_from_gives = { NumberedBy };
+
+    fn try_from(kind: u16) -> Result<Self, UnknownKind> {
+        match kind {
+            1 => Ok(KindField::Prime17),
+            2 => Ok(KindField::Prime31),
+            3 => Ok(KindField::Prime127),
+            4 => Ok(KindField::Prime257),
+            5 => Ok(KindField::Binary16),
+            6 => Ok(KindField::Binary64),
+            7 => Ok(KindField::Binary256),
+            _ => Err(UnknownKind { kind }),
+        }
+    }
+}
 
 impl KindField {
-    // The field of a kind, or a refusal of a number that is no kind.
-    pub fn of(kind: u16) -> Result<KindField, UnknownKind>
-        ensures { elim result [ Ok f ↦ (f.kind ≡ kind) × (1 ≤ kind) × (kind ≤ 7) | Err e ↦ (e.kind ≡ kind) × ((1 ≤ kind) × (kind ≤ 7) → ⊥) ] }
+    // The kind number.
+    pub fn kind(&self) -> u8
+        ensures { result ≡ number_of self.now }
     {
-        if 1 <= kind && kind <= 7 {
-            Ok(KindField { kind: kind as u8 })
-        } else {
-            Err(UnknownKind { kind })
+        match self {
+            KindField::Prime17 => 1,
+            KindField::Prime31 => 2,
+            KindField::Prime127 => 3,
+            KindField::Prime257 => 4,
+            KindField::Binary16 => 5,
+            KindField::Binary64 => 6,
+            KindField::Binary256 => 7,
         }
     }
 
-    // The kind number.
-    pub fn kind(&self) -> u8
-        ensures { result ≡ self.now.kind }
+    fn size(&self) -> u16
+        ensures { result ≡ order_of (number_of self.now) }
     {
-        self.kind
+        match self {
+            KindField::Prime17 => 17,
+            KindField::Prime31 => 31,
+            KindField::Prime127 => 127,
+            KindField::Prime257 => 257,
+            KindField::Binary16 => 16,
+            KindField::Binary64 => 64,
+            KindField::Binary256 => 256,
+        }
     }
 
-    fn size(&self) -> u16
-        ensures { result ≡ order_of self.now.kind }
+    // a, or 0 where it is the order or above.
+    fn reduced(&self, a: u16) -> u16
+        ensures { result ≡ taken (order_of (number_of self.now)) a }
     {
-        ORDERS[self.kind as usize]
+        reduced(self.size(), a)
     }
 
     // Whether the field is of whole numbers modulo a prime.
     fn is_prime(&self) -> bool
-        ensures { result ≡ nat_lt self.now.kind 5 }
+        ensures { result ≡ nat_lt (number_of self.now) 5 }
     {
-        self.kind < 5
-    }
-
-    // a, or 0 where a is the order or above
-    fn reduced(&self, a: u16) -> u16
-        ensures { result ≡ taken (order_of self.now.kind) a }
-    {
-        if a < self.size() { a } else { 0 }
+        self.kind() < 5
     }
 
     fn powers(&self) -> &'static [u16]
-        ensures { Powers (ops_of self.now.kind) (generator_of self.now.kind) result.now }
+        ensures { Powers (ops_of (number_of self.now)) (generator_of (number_of self.now)) result.now }
     {
-        match self.kind {
-            1 => &tables::POWERS_17,
-            2 => &tables::POWERS_31,
-            3 => &tables::POWERS_127,
-            4 => &tables::POWERS_257,
-            5 => &tables::POWERS_16,
-            6 => &tables::POWERS_64,
-            _ => &tables::POWERS_256,
+        match self {
+            KindField::Prime17 => &tables::POWERS_17,
+            KindField::Prime31 => &tables::POWERS_31,
+            KindField::Prime127 => &tables::POWERS_127,
+            KindField::Prime257 => &tables::POWERS_257,
+            KindField::Binary16 => &tables::POWERS_16,
+            KindField::Binary64 => &tables::POWERS_64,
+            KindField::Binary256 => &tables::POWERS_256,
         }
     }
 
-    fn inverses(&self) -> &'static [u16]
-        requires { self.now.kind < 5 }
-        ensures { InverseTable (ops_of self.now.kind) result.now }
+    // The prime kinds have a table of inverses, the binary ones of logarithms.
+    fn lookup(&self) -> Lookup
+        ensures { LookedUp (number_of self.now) result }
     {
-        match self.kind {
-            1 => &tables::INVERSES_17,
-            2 => &tables::INVERSES_31,
-            3 => &tables::INVERSES_127,
-            _ => &tables::INVERSES_257,
-        }
-    }
-
-    fn logarithms(&self) -> &'static [u16]
-        requires { 5 ≤ self.now.kind }
-        ensures { Logarithms (ops_of self.now.kind) (generator_of self.now.kind) result.now }
-    {
-        match self.kind {
-            5 => &tables::LOGARITHMS_16,
-            6 => &tables::LOGARITHMS_64,
-            _ => &tables::LOGARITHMS_256,
+        match self {
+            KindField::Prime17 => Lookup::Inverses(&tables::INVERSES_17),
+            KindField::Prime31 => Lookup::Inverses(&tables::INVERSES_31),
+            KindField::Prime127 => Lookup::Inverses(&tables::INVERSES_127),
+            KindField::Prime257 => Lookup::Inverses(&tables::INVERSES_257),
+            KindField::Binary16 => Lookup::Logarithms(&tables::LOGARITHMS_16),
+            KindField::Binary64 => Lookup::Logarithms(&tables::LOGARITHMS_64),
+            KindField::Binary256 => Lookup::Logarithms(&tables::LOGARITHMS_256),
         }
     }
 
     // The power of the generator with an exponent below twice the number of its powers.
     fn power(&self, exponent: usize) -> u16
-        requires { exponent + 2 < order_of self.now.kind + order_of self.now.kind }
-        ensures { result ≡ power_of (ops_of self.now.kind) (generator_of self.now.kind) exponent }
+        requires { exponent + 2 < order_of (number_of self.now) + order_of (number_of self.now) }
+        ensures { result ≡ power_of (ops_of (number_of self.now)) (generator_of (number_of self.now)) exponent }
     {
         let powers = self.powers();
         if exponent < powers.len() {
@@ -112,9 +138,9 @@ impl KindField {
 }
 
 impl Ring for KindField {
-    ghost ops = { λ f. ops_of f.kind };
+    ghost ops = { λ f. ops_of (number_of f) };
 
-    ghost ring = { λ f. laws f.kind f.ok };
+    ghost ring = { λ f. laws (number_of f) (number_in f) };
 
     fn order(&self) -> u16 {
         self.size()
@@ -143,44 +169,38 @@ impl Ring for KindField {
     fn mul(&self, a: u16, b: u16) -> u16 {
         let x = self.reduced(a);
         let y = self.reduced(b);
-        if self.is_prime() {
-            (x as u32 * y as u32 % self.size() as u32) as u16
-        } else if x == 0 {
-            0
-        } else if y == 0 {
-            0
-        } else {
-            let logarithms = self.logarithms();
-            self.power(logarithms[x as usize] as usize + logarithms[y as usize] as usize)
+        match self.lookup() {
+            Lookup::Inverses(_) => (x as u32 * y as u32 % self.size() as u32) as u16,
+            Lookup::Logarithms(logarithms) => {
+                if x == 0 || y == 0 {
+                    return 0;
+                }
+                self.power(logarithms[x as usize] as usize + logarithms[y as usize] as usize)
+            }
         }
     }
 }
 
 impl Field for KindField {
-    ghost inv = { λ f. inverse_of (ops_of f.kind) };
+    ghost inv = { λ f. inverse_of (ops_of (number_of f)) };
 
-    ghost points = { λ f. point_of (ops_of f.kind) (generator_of f.kind) };
+    ghost points = { λ f. point_of (ops_of (number_of f)) (generator_of (number_of f)) };
 
     fn inverse(&self, a: u16) -> u16 {
         let x = self.reduced(a);
-        if self.is_prime() {
-            return self.inverses()[x as usize];
-        }
-        let powers = self.powers();
-        let logarithms = self.logarithms();
-        if x == 0 {
-            0
-        } else {
-            self.power(powers.len() - logarithms[x as usize] as usize)
+        match self.lookup() {
+            Lookup::Inverses(inverses) => inverses[x as usize],
+            Lookup::Logarithms(logarithms) => {
+                let powers = self.powers();
+                if x == 0 {
+                    return 0;
+                }
+                self.power(powers.len() - logarithms[x as usize] as usize)
+            }
         }
     }
 
     fn point(&self, column: u16) -> u16 {
-        let powers = self.powers();
-        if (column as usize) < powers.len() {
-            powers[column as usize]
-        } else {
-            0
-        }
+        self.powers().get(column as usize).copied().unwrap_or(0)
     }
 }

@@ -2,7 +2,7 @@
 #![tactic(auto)]
 
 ghost use Rattle.std.specs.Prelude.{◌≡◌, ℕ, ◌<◌, ◌≤◌, min, length, slice_index};
-ghost use Rattle.fields.specs.Rings.{RingOps, RingLaws, Inverses, Points, Combined};
+ghost use Rattle.fields.specs.Rings.{RingOps, RingLaws, Inverses, Points, Combined, taken};
 ghost use Rattle.basics.specs.Lists.{Updated};
 
 mod kind;
@@ -14,6 +14,13 @@ pub use kind::{KindField, UnknownKind};
 pub const LANES: usize = 64;
 
 pub type Lanes = [u16; LANES];
+
+// a, or 0 where it is the order or above.
+pub fn reduced(order: u16, a: u16) -> u16
+    ensures { result ≡ taken order a }
+{
+    if a < order { a } else { 0 }
+}
 
 // A ring. Its meaning is `ops`; every argument of the order or above is taken as 0.
 pub trait Ring {
@@ -35,8 +42,8 @@ pub trait Ring {
     fn scale_add(&self, a: u16, xs: &Lanes, sums: &mut Lanes, width: usize)
         ensures { Updated width (λ l. (ops self.now).add (slice_index sums.old l) ((ops self.now).mul a (slice_index xs.now l))) sums.old sums.new }
     {
-        for l in 0..width.min(LANES) {
-            sums[l] = self.add(sums[l], self.mul(a, xs[l]));
+        for (l, sum) in sums[..width.min(LANES)].iter_mut().enumerate() {
+            *sum = self.add(*sum, self.mul(a, xs[l]));
         }
     }
 
@@ -45,8 +52,9 @@ pub trait Ring {
         ensures { Combined (ops self.now) width (min (length coefficients.now) (length rows.now)) coefficients.now rows.now result }
     {
         let mut sums = [0; LANES];
-        for i in 0..coefficients.len().min(rows.len()) {
-            self.scale_add(coefficients[i], &rows[i], &mut sums, width);
+        let count = coefficients.len().min(rows.len());
+        for (i, row) in rows[..count].iter().enumerate() {
+            self.scale_add(coefficients[i], row, &mut sums, width);
         }
         sums
     }

@@ -1,4 +1,5 @@
-use Rattle.std.proofs.Common.{◌≡◌, ℕ, min, length, subst, arith}
+use Rattle.std.proofs.Common.{◌≡◌, ℕ, min, length, subst, arith, []}
+use Rattle.std.proofs.lemmas.List.{length-take, get_or-take}
 use Rattle.fields.specs.Rings.{Combined}
 use Rattle.fields.proofs.Lanes.{combined_none, combined_more}
 use Rattle.fields.proofs.Ring.combine.Goals as goal
@@ -7,10 +8,14 @@ pub loop-i-init : goal.loop-i-init
 loop-i-init g c = combined_none _ _ _ _
 
 pub loop-i-preserved : goal.loop-i-preserved
-loop-i-preserved g c = combined_more _ _ _ _ _ _ _ c.loop-i.invariant c.scale_add.ensures
+loop-i-preserved g c =
+    let z = length-take c.min-count.result c.args.rows.now in
+    let e = get_or-take c.min-count.result c.args.rows.now c.loop-i.i [] (omega arith) in
+    combined_more _ _ _ _ _ _ _ c.loop-i.invariant (rw (← e) c.scale_add.ensures)
 
 pub returns : goal.returns
 returns g c =
     let cs = c.args.coefficients.now in let rows = c.args.rows.now in
+    let z = length-take c.min-count.result rows in
     let e : c.loop-i.i ≡ min (length cs) (length rows) = omega arith in
     subst (λ (n : ℕ). Combined (g.Self.Ring.ops c.args.self.now) c.args.width n cs rows c.loop-i.sums) e c.loop-i.invariant

@@ -5,4 +5,4 @@ use Rattle.fields.proofs.Ring.scale_add.Given as goal
 abbrev pub invariant-loop-l : goal.invariant-loop-l
 invariant-loop-l g l =
     let o = g.Self.Ring.ops l.self in
-    Updated l.l (λ k. o.add (get_or l.initial.sums k 0) (o.mul l.a (get_or l.xs k 0))) l.initial.sums l.sums
+    Updated l.l (λ k. o.add (get_or l.initial.sum-items k 0) (o.mul l.a (get_or l.xs k 0))) l.initial.sum-items l.sum-items

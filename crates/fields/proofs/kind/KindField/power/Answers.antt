@@ -1,10 +1,10 @@
 use Rattle.std.proofs.Common.{arith}
 use Rattle.fields.proofs.Cycle.{power_past}
-use Rattle.fields.specs.Seven.{laws, generator_in, order_is}
+use Rattle.fields.specs.Numbered.{number_of}
+use Rattle.fields.specs.Seven.{laws, generator_in, number_in, order_is}
 use Rattle.fields.proofs.kind.KindField.power.Goals as goal
 
 pub returns-else-exponent-powers : goal.returns-else-exponent-powers
 returns-else-exponent-powers c =
-    let f = c.args.self.now in let p = c.powers-powers.ensures in
-    let o = order_is f.kind f.ok in let n = p.long in
-    power_past (laws f.kind f.ok) (generator_in f.kind f.ok) p c.args.exponent (omega arith) (omega arith)
+    let k = number_of c.args.self.now in let ok = number_in c.args.self.now in let p = c.powers-powers.ensures in let n = p.long in let o = order_is k ok in
+    power_past (laws k ok) (generator_in k ok) p c.args.exponent (omega arith) (omega arith)

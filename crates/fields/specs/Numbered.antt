@@ -1,0 +1,27 @@
+-- The seven fields by their kind numbers, and what they are looked up in.
+use Rattle.std.specs.Prelude.{◌≡◌, ℕ, ◌<◌, ◌≤◌, Result, MatchResult}
+use Rattle.fields.specs.Kinds.{ops_of, generator_of, Logarithms, InverseTable}
+use Rattle.fields.specs.declared.kind.KindField.{KindField}
+use Rattle.fields.specs.declared.kind.KindField.TheVariants.{Prime17, Prime31, Prime127, Prime257, Binary16, Binary64, Binary256}
+use Rattle.fields.specs.declared.kind.UnknownKind.{UnknownKind}
+use Rattle.fields.specs.declared.kind.Lookup.{Lookup}
+use Rattle.fields.specs.declared.kind.Lookup.TheVariants.{Inverses as InversesIn, Logarithms as LogarithmsIn}
+
+-- the kind number of a field
+abbrev pub number_of : KindField → ℕ
+number_of Prime17 = 1
+number_of Prime31 = 2
+number_of Prime127 = 3
+number_of Prime257 = 4
+number_of Binary16 = 5
+number_of Binary64 = 6
+number_of Binary256 = 7
+
+-- the field of a kind number, or a refusal of a number that is no kind
+abbrev pub NumberedBy : ℕ → Result KindField UnknownKind → Type 0
+NumberedBy kind r = MatchResult r (λ f. (number_of f ≡ kind) × (1 ≤ kind) × (kind ≤ 7)) (λ e. (e.kind ≡ kind) × ((1 ≤ kind) × (kind ≤ 7) → ⊥))
+
+-- a prime kind's table is that of its inverses, a binary one's that of its logarithms
+abbrev pub LookedUp : ℕ → Lookup → Type 0
+LookedUp k (InversesIn is) = (k < 5) × InverseTable (ops_of k) is.now
+LookedUp k (LogarithmsIn ls) = (5 ≤ k) × Logarithms (ops_of k) (generator_of k) ls.now
