@@ -11,7 +11,7 @@ use Rattle.algebra.proofs.Solve.{signed, neg_zero, equal_from_difference, positi
 use Rattle.algebra.proofs.Sum.{sum_in, sum_same}
 use Rattle.algebra.proofs.Moments.{Apart}
 use Rattle.algebra.proofs.Distance.{moment_minus}
-use Rattle.algebra.proofs.Poly.{product_root, product_nonroot, turned_same, spread}
+use Rattle.algebra.proofs.Polys.{product_root, product_nonroot, turned_same, spread}
 use Rattle.algebra.proofs.Inverse.{turned_root, value_root}
 use Rattle.algebra.proofs.Find.{Only, kept, kept_marked, kept_none, kept_some, filtered, least_product}
 use Rattle.algebra.proofs.Forney.{evaluator, forney}

@@ -14,7 +14,7 @@ use Rattle.algebra.proofs.Weights.{weights, Meets}
 use Rattle.algebra.proofs.Roots.{values_moments}
 use Rattle.algebra.proofs.Columns.{rising_below, rising_apart, among_entry, entry_among, scatter, scatter_on, scatter_off, scatter_moment}
 use Rattle.algebra.proofs.Distance.{same_code_rows}
-use Rattle.algebra.proofs.Poly.{turned_reverse}
+use Rattle.algebra.proofs.Polys.{turned_reverse}
 use Rattle.algebra.proofs.Quotient.{without_others, without_itself}
 
 module _ {o : RingOps} (l : Solid o) {inv : ℕ → ℕ} (d : Divides o inv) (r : ℕ) (p : ℕ → ℕ) (a : Apart o.order r p)

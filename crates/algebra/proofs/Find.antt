@@ -9,7 +9,7 @@ use Rattle.algebra.proofs.Solve.{mul_zero, zero_mul, zero_from_mul, nonzero_mul}
 use Rattle.algebra.proofs.Sum.{sum_in, sum_same, sum_zero}
 use Rattle.algebra.proofs.Moments.{Apart, moment_up, vanish}
 use Rattle.algebra.proofs.Recur.{gap_moment}
-use Rattle.algebra.proofs.Poly.{product_normal, product_root, product_nonroot, spread}
+use Rattle.algebra.proofs.Polys.{product_normal, product_root, product_nonroot, spread}
 use Rattle.algebra.proofs.Quotient.{Rooted, root_count, is_product}
 
 -- the weights are 0 but where u marks

@@ -10,7 +10,7 @@ use Rattle.algebra.proofs.Solve.{ring, signed, mul_zero, zero_mul, zero_add, non
 use Rattle.algebra.proofs.Sum.{sum_in, sum_first, sum_same, sum_add, sum_scale, sum_swap, sum_only, sum_less, sum_beyond}
 use Rattle.algebra.proofs.Moments.{Apart, moment_up}
 use Rattle.algebra.proofs.Recur.{gap_moment}
-use Rattle.algebra.proofs.Poly.{product_normal, product_root, sum_times}
+use Rattle.algebra.proofs.Polys.{product_normal, product_root, sum_times}
 use Rattle.algebra.proofs.Inverse.{turned_root, value_root}
 use Rattle.algebra.proofs.Quotient.{quotient_times, quotient_beyond, without_others, without_itself}
 use Rattle.algebra.proofs.Find.{Only}

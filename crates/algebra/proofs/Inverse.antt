@@ -6,7 +6,7 @@ use Rattle.algebra.specs.Rows.{count}
 use Rattle.algebra.proofs.Ring.{Solid, Divides}
 use Rattle.algebra.proofs.Solve.{ring, mul_zero, zero_from_mul}
 use Rattle.algebra.proofs.Sum.{sum_in, power_in, power_add, sum_same, sum_scale, power_nonzero}
-use Rattle.algebra.proofs.Poly.{product_root}
+use Rattle.algebra.proofs.Polys.{product_root}
 
 module _ {o : RingOps} (l : Solid o) where
   open o use {order as q, neg, add as ◌⊕◌, mul as ◌⊗◌}

@@ -8,7 +8,7 @@ pub mod Roots
 pub mod Columns
 pub mod Distance
 pub mod Recur
-pub mod Poly
+pub mod Polys
 pub mod Quotient
 pub mod Filling
 pub mod Inverse
@@ -16,3 +16,4 @@ pub mod Find
 pub mod Forney
 pub mod Decode
 pub mod Correct
+pub mod Coefficients

@@ -9,7 +9,7 @@ use Rattle.algebra.proofs.Ring.{Solid, Divides}
 use Rattle.algebra.proofs.Solve.{ring, cancel_left, zero_from_mul, equal_from_difference, positive}
 use Rattle.algebra.proofs.Sum.{sum_in}
 use Rattle.algebra.proofs.Moments.{Apart}
-use Rattle.algebra.proofs.Poly.{product_on, product_off, product_normal, product_root, turned_more, turned_first, turned_same, turned_times}
+use Rattle.algebra.proofs.Polys.{product_on, product_off, product_normal, product_root, turned_more, turned_first, turned_same, turned_times}
 
 -- the first n points stay apart without the last
 pub apart_less : (q n : ℕ) (p : ℕ → ℕ) → Apart q (suc n) p → Apart q n p

@@ -1,3 +1,4 @@
+// The mathematics of code rows over any ring and field: definitions in specs/, theorems in proofs/, and polynomials in code.
 #![tactic(auto)]
 
-// The mathematics of code rows over any ring and field: definitions in specs/, theorems in proofs/, and no code.
+pub mod poly;

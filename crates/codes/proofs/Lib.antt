@@ -1,6 +1,5 @@
 pub mod Rowing
 pub mod Placing
-pub mod Polys
 pub mod Weighing
 pub mod Tables
 pub mod Marching

@@ -6,7 +6,7 @@ use Rattle.algebra.specs.Recurrences.{at}
 use Rattle.basics.specs.Lists.{Updated}
 use Rattle.algebra.proofs.Ring.{Solid}
 use Rattle.algebra.proofs.Solve.{mul_zero, zero_add}
-use Rattle.algebra.proofs.Poly.{turned_more, turned_first}
+use Rattle.algebra.proofs.Polys.{turned_more, turned_first}
 use Rattle.codes.specs.Fill.{nested}
 
 module _ {o : RingOps} (l : Solid o) where
@@ -24,17 +24,6 @@ pub nested_same : (o : RingOps) (x n : ℕ) (b c : ℕ → ℕ) → ((j : ℕ) �
 unfolding nested
 nested_same o x zero b c e = refl
 nested_same o x (suc n) b c e = ap₂ (λ s t. o.add (o.mul x s) t) (nested_same o x n b c (λ j h. e j (omega arith))) (e n (omega arith))
-
--- one more factor, coefficient by coefficient
-pub times_first : (o : RingOps) (a : ℕ) (c : List ℕ) (j : ℕ) → j ≡ 0 → get_or c 0 0 ≡ times o a (λ j. get_or c j 0) j
-unfolding times
-times_first o a c j e = rw e refl
-
-pub times_entry : (o : RingOps) (a : ℕ) (c : List ℕ) (j m n : ℕ) → 1 ≤ j → m ≡ o.mul a (get_or c (j - 1) 0) → n ≡ o.neg m
-    → o.add (get_or c j 0) n ≡ times o a (λ j. get_or c j 0) j
-unfolding times
-times_entry o a c zero m n h e f = absurd (omega arith)
-times_entry o a c (suc j) m n h e f = let i : suc j - 1 ≡ j = omega arith in ap (o.add (get_or c (suc j) 0)) (f ∙ ap o.neg (e ∙ ap (λ t. o.mul a (get_or c t 0)) i))
 
 -- one more step
 pub nested_more : (o : RingOps) (x : ℕ) (c : ℕ → ℕ) (j s : ℕ) → s ≡ nested o x c j → o.add (o.mul x s) (c j) ≡ nested o x c (j + 1)

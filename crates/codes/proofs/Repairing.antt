@@ -8,13 +8,13 @@ use Rattle.algebra.specs.Polynomials.{product, value, multiple, derivative}
 use Rattle.algebra.specs.Recurrences.{at, Least, Shortest}
 use Rattle.algebra.proofs.Ring.{Solid, solid}
 use Rattle.algebra.proofs.Sum.{sum_same, sum_beyond}
-use Rattle.algebra.proofs.Poly.{product_normal}
+use Rattle.algebra.proofs.Polys.{product_normal}
 use Rattle.algebra.proofs.Columns.{rising_count}
 use Rattle.algebra.proofs.Forney.{evaluator}
 use Rattle.algebra.proofs.Decode.{remaining, damaged, correction, corrected}
 use Rattle.algebra.proofs.Correct.{least_same, least_short, close_corrected}
 use Rattle.codes.specs.Fill.{Tabled, power_of}
-use Rattle.codes.specs.Poly.{product_entry, value_at}
+use Rattle.algebra.specs.Coefficients.{product_entry, value_at}
 use Rattle.codes.specs.Correct.{Flagged, repaired_at, Ready, Syndromes}
 use Rattle.codes.specs.declared.correct.Tables.{Tables}
 use Rattle.codes.specs.declared.correct.Damage.{Damage}

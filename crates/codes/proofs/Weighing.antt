@@ -4,7 +4,7 @@ use Rattle.fields.specs.Rings.{RingOps, entry}
 use Rattle.algebra.specs.Polynomials.{times, product, turned, quotient, gamma, weight, filler}
 use Rattle.algebra.proofs.Ring.{Solid}
 use Rattle.algebra.proofs.Sum.{sum_in}
-use Rattle.algebra.proofs.Poly.{product_normal}
+use Rattle.algebra.proofs.Polys.{product_normal}
 use Rattle.codes.specs.Fill.{Tabled, nested}
 use Rattle.codes.proofs.Nested.{nested_turned, nested_same}
 

@@ -7,7 +7,7 @@ use Rattle.algebra.specs.Rows.{moment, rising, among, taken_row, CloseRow, Corre
 use Rattle.algebra.specs.Polynomials.{product}
 use Rattle.algebra.specs.Recurrences.{at}
 use Rattle.codes.specs.Fill.{Tabled, power_of}
-use Rattle.codes.specs.Poly.{value_at}
+use Rattle.algebra.specs.Coefficients.{value_at}
 use Rattle.codes.specs.declared.correct.CorrectFault.{CorrectFault}
 use Rattle.codes.specs.declared.correct.CorrectFault.TheVariants.{Width, Checks, Marking, Length, Lost}
 use Rattle.codes.specs.declared.correct.Tables.{Tables}

@@ -5,7 +5,7 @@ ghost use Rattle.basics.specs.Lists.{Updated};
 ghost use Rattle.algebra.specs.Rows.{among, count, CloseRow};
 ghost use Rattle.algebra.specs.Polynomials.{product, multiple, derivative};
 ghost use Rattle.algebra.specs.Recurrences.{at, Shortest};
-ghost use Rattle.codes.specs.Poly.{product_entry, value_at};
+ghost use Rattle.algebra.specs.Coefficients.{product_entry, value_at};
 ghost use Rattle.codes.specs.Fill.{Tabled, power_of};
 ghost use Rattle.codes.specs.Correct.{correct_fault, FitsChecks, Flagged, repaired_at, Tells, Ready, Syndromes, CorrectedAt, LostAt, refusal, CorrectedRows, Left};
 

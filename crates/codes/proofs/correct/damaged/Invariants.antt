@@ -1,6 +1,6 @@
 use Rattle.std.proofs.Common.{◌≡◌, ◌+◌, false, ◌||◌, eqb, length, get_or, take}
 use Rattle.codes.specs.Correct.{Flagged}
-use Rattle.codes.specs.Poly.{value_at}
+use Rattle.algebra.specs.Coefficients.{value_at}
 use Rattle.codes.proofs.correct.damaged.Given as goal
 
 abbrev pub invariant-loop-k : goal.invariant-loop-k

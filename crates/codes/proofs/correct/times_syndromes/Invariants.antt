@@ -1,6 +1,6 @@
 use Rattle.std.proofs.Common.{replicate}
 use Rattle.basics.specs.Lists.{Updated}
-use Rattle.codes.specs.Poly.{product_entry}
+use Rattle.algebra.specs.Coefficients.{product_entry}
 use Rattle.codes.proofs.correct.times_syndromes.Given as goal
 
 abbrev pub invariant-loop-m : goal.invariant-loop-m

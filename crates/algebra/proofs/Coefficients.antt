@@ -1,13 +1,16 @@
 -- Products and values of polynomials, as the loops take them.
-use Rattle.std.proofs.Common.{◌≡◌, ℕ, suc, ◌+◌, ◌-◌, ◌<◌, ◌≤◌, List, ◌∷◌, length, get_or, sym, ap, ◌∙◌, arith}
+use Rattle.std.proofs.Common.{◌≡◌, ℕ, zero, suc, ◌+◌, ◌-◌, ◌<◌, ◌≤◌, List, [], ◌∷◌, reverse, length, get_or, sym, refl, ap, ◌∙◌, arith}
+use Rattle.std.specs.List.{fold}
+use Rattle.std.proofs.lemmas.List.Sums.{fold-append}
 use native.Mathlib.Decide.{dec_le}
-use Rattle.std.proofs.lemmas.List.{get_or_past}
+use Rattle.std.proofs.lemmas.List.{get_or_past, reverse-append}
 use Rattle.std.proofs.lemmas.Bool.Decides.{nat_tests}
 use Rattle.fields.specs.Rings.{RingOps, RingLaws, sum, power, taken}
+use Rattle.algebra.specs.Polynomials.{times}
 use Rattle.algebra.proofs.Ring.{Solid, solid}
 use Rattle.algebra.proofs.Solve.{ring, mul_zero}
 use Rattle.algebra.proofs.Sum.{sum_first, sum_same, sum_zero, sum_scale, sum_beyond}
-use Rattle.codes.specs.Poly.{product_entry, value_at}
+use Rattle.algebra.specs.Coefficients.{product_entry, value_at}
 
 module _ (o : RingOps) (laws : RingLaws o) where
   l : Solid o
@@ -54,3 +57,23 @@ module _ (o : RingOps) (laws : RingLaws o) where
     where
       turn : (a b : ℕ) → o.mul a (o.mul x b) ≡ o.mul x (o.mul a b)
       turn a b = simp (ring, l)
+
+-- Horner's rule over all coefficients, the last first
+pub horner : (o : RingOps) (laws : RingLaws o) (x : ℕ) (cs : List ℕ) → fold (λ v c. o.add c (o.mul x v)) 0 (reverse cs) ≡ value_at o cs x
+unfolding sum
+horner o laws x [] = refl
+horner o laws x (c ∷ cs) =
+    ap (fold (λ v c. o.add c (o.mul x v)) 0) (reverse-append (c ∷ []) cs)
+    ∙ fold-append (λ v c. o.add c (o.mul x v)) 0 (reverse cs) (c ∷ [])
+    ∙ ap (λ v. o.add c (o.mul x v)) (horner o laws x cs) ∙ sym (value_cons o laws c cs x)
+
+-- one more factor, coefficient by coefficient
+pub times_first : (o : RingOps) (a : ℕ) (c : List ℕ) (j : ℕ) → j ≡ 0 → get_or c 0 0 ≡ times o a (λ j. get_or c j 0) j
+unfolding times
+times_first o a c j e = rw e refl
+
+pub times_entry : (o : RingOps) (a : ℕ) (c : List ℕ) (j m n : ℕ) → 1 ≤ j → m ≡ o.mul a (get_or c (j - 1) 0) → n ≡ o.neg m
+    → o.add (get_or c j 0) n ≡ times o a (λ j. get_or c j 0) j
+unfolding times
+times_entry o a c zero m n h e f = absurd (omega arith)
+times_entry o a c (suc j) m n h e f = let i : suc j - 1 ≡ j = omega arith in ap (o.add (get_or c (suc j) 0)) (f ∙ ap o.neg (e ∙ ap (λ t. o.mul a (get_or c t 0)) i))

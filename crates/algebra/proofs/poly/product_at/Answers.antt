@@ -1,7 +1,7 @@
 use Rattle.std.proofs.Common.{sym, ◌∙◌, ap₂, arith}
 use Rattle.fields.proofs.Lanes.{sum_more}
-use Rattle.codes.proofs.Polys.{product_start, product_all}
-use Rattle.codes.proofs.poly.product_at.Goals as goal
+use Rattle.algebra.proofs.Coefficients.{product_start, product_all}
+use Rattle.algebra.proofs.poly.product_at.Goals as goal
 
 pub loop-j-init : goal.loop-j-init
 loop-j-init g c =

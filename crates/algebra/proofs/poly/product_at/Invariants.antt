@@ -1,6 +1,6 @@
 use Rattle.std.proofs.Common.{◌≡◌, ◌+◌, ◌-◌, ◌≤◌, get_or}
 use Rattle.fields.specs.Rings.{sum}
-use Rattle.codes.proofs.poly.product_at.Given as goal
+use Rattle.algebra.proofs.poly.product_at.Given as goal
 
 abbrev pub invariant-loop-j : goal.invariant-loop-j
 invariant-loop-j g l =

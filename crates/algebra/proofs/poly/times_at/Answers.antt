@@ -1,6 +1,6 @@
 use Rattle.std.proofs.Common.{◌∙◌, arith}
-use Rattle.codes.proofs.Nested.{times_first, times_entry}
-use Rattle.codes.proofs.poly.times_at.Goals as goal
+use Rattle.algebra.proofs.Coefficients.{times_first, times_entry}
+use Rattle.algebra.proofs.poly.times_at.Goals as goal
 
 pub returns-then-j-eq0 : goal.returns-then-j-eq0
 returns-then-j-eq0 g c = times_first _ _ c.args.c.now c.args.j c.if-j-eq0.true
