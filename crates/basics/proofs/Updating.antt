@@ -56,19 +56,19 @@ module _ {F : Type 0} {k : Mut F (ℕ × Unit {0}) ℕ} {f : F} {n : ℕ} (ys : 
 
   pub updated_made : IsFromFnResult k f ys n → Updated n g (replicate n 0) ys
   updated_made made = record {
-      long = made.long ∙ sym (length-replicate n 0);
-      new = λ i h l. made_from 0 n f refl made.each (omega arith) i (omega arith) (omega arith);
-      old = λ i h. let z = made.long in get_or_past ys i 0 (omega arith) ∙ sym (get_d_zeros n i);
-    }
+    long = made.long ∙ sym (length-replicate n 0);
+    new = λ i h l. made_from 0 n f refl made.each (omega arith) i (omega arith) (omega arith);
+    old = λ i h. let z = made.long in get_or_past ys i 0 (omega arith) ∙ sym (get_d_zeros n i);
+  }
 
 -- and where it is 0 from place m on
 pub updated_below : {m n : ℕ} {g h : ℕ → ℕ} {ys : List ℕ} → m ≤ n → Updated n g (replicate n 0) ys → ((i : ℕ) → i < m → g i ≡ h i) → ((i : ℕ) → m ≤ i → ◌≡◌ {A = ℕ} (g i) 0)
     → Updated m h (replicate n 0) ys
 updated_below {m} {n} few u low high = record {
-    long = u.long;
-    new = λ i a b. u.new i (omega arith) b ∙ low i a;
-    old = λ i a. elim (dec_lt i n) [
-      | yes b ↦ let z = length-replicate {A = ℕ} n 0 in u.new i b (omega arith) ∙ high i a ∙ sym (get_d_zeros n i)
-      | no b ↦ u.old i (omega arith)
-    ];
-  }
+  long = u.long;
+  new = λ i a b. u.new i (omega arith) b ∙ low i a;
+  old = λ i a. elim (dec_lt i n) [
+    | yes b ↦ let z = length-replicate {A = ℕ} n 0 in u.new i b (omega arith) ∙ high i a ∙ sym (get_d_zeros n i)
+    | no b ↦ u.old i (omega arith)
+  ];
+}

@@ -1,13 +1,24 @@
 -- The steps on what the code holds, from what its functions promise.
-use Rattle.std.proofs.Common.{◌≡◌, ℕ, suc, ◌+◌, ◌-◌, ◌*◌, ◌<◌, ◌≤◌, List, sym, ap, ◌∙◌, ap₂, add-one, arith}
+use Rattle.std.proofs.Common.{◌≡◌, ℕ, suc, ◌+◌, ◌-◌, ◌*◌, ◌<◌, ◌≤◌, List, take, sym, ap, ◌∙◌, ap₂, add-one, arith}
 use mathlib.Core.Path.{fun_ext}
-use Rattle.fields.specs.Rings.{RingOps, RingLaws, Inverses}
+use Rattle.fields.specs.Rings.{RingOps, RingLaws, Inverses, sum}
 use Rattle.algebra.specs.Recurrences.{gap, at}
 use Rattle.algebra.proofs.Ring.{solid}
-use Rattle.algebra.proofs.Sum.{sum_in}
+use Rattle.algebra.proofs.Sum.{sum_in, sum_same}
+use Rattle.algebra.specs.Coefficients.{product_entry}
+use Rattle.algebra.proofs.Coefficients.{product_all}
+use Rattle.std.proofs.lemmas.List.{length-take, get_or-take}
 use Rattle.solver.specs.declared.Earlier.{Earlier}
 use Rattle.solver.specs.Stages.{mended, Held}
 use Rattle.solver.proofs.Massey.{step_same, step_kept, step_grown}
+
+-- a coefficient of the product with the values is the sum that the recurrence has there
+pub gap_from_product : (o : RingOps) (r : RingLaws o) (values c : List ℕ) (i n x : ℕ) → n ≤ i → x ≡ product_entry o (take (n + 1) c) values i → x ≡ gap o n (at c) (at values) i
+gap_from_product o r values c i n x h e =
+    let z = length-take (n + 1) c in
+    e ∙ sym (product_all o r (take (n + 1) c) values i (n + 1) (omega arith) (λ u. omega arith))
+    ∙ sum_same (solid o r) (n + 1) _ (λ j. o.mul (at c j) (at values (i - j))) (λ j l. ap (λ t. o.mul t (at values (i - j))) (get_or-take (n + 1) c j 0 l))
+    ∙ ap (λ (k : ℕ). sum o k (λ j. o.mul (at c j) (at values (i - j)))) (add-one n)
 
 module _ (o : RingOps) (r : RingLaws o) (values c : List ℕ) (before : Earlier) (i n x : ℕ) (held : Held o values i n c before)
     (is : x ≡ gap o n (at c) (at values) i) where

@@ -3,17 +3,16 @@
 #![tactic(auto)]
 
 ghost use Rattle.std.specs.Prelude.{◌≡◌, ℕ, ◌+◌, ◌<◌, ◌≤◌, length, MatchOption};
-ghost use Rattle.algebra.specs.Polynomials.{unit, Normal};
-ghost use Rattle.algebra.specs.Recurrences.{gap, at, Shortest};
+ghost use Rattle.algebra.specs.Polynomials.{Normal};
+ghost use Rattle.algebra.specs.Recurrences.{at, Shortest};
 ghost use Rattle.solver.specs.Stages.{mended, Held};
 
+pub use algebra::poly::Coefficients;
+use algebra::poly::{one, product_at};
 use fields::{Field, Ring};
 
-// The most values that are solved for.
+// The most values that are solved for. No length is above it, so that a polynomial of that degree is enough.
 pub const MOST: usize = 64;
-
-// A polynomial's coefficients, the constant first. No length is above MOST, so that these are enough.
-pub type Coefficients = [u16; 65];
 
 // The recurrence before its length last grew: its coefficients, its length, and the inverse of the sum, in place of 0, that it
 // has at the first value that it does not fit.
@@ -24,29 +23,6 @@ struct Earlier {
     inverse: u16,
 }
 
-// The polynomial 1.
-fn one() -> Coefficients
-    ensures { (j : ℕ) → at result j ≡ unit 0 j }
-{
-    let mut c = [0; 65];
-    c[0] = 1;
-    c
-}
-
-// The sum of c[j] × values[i - j], j from 0 to l.
-fn discrepancy<R: Ring>(ring: &R, values: &[u16], i: usize, c: &Coefficients, l: usize) -> u16
-    requires i_in_bounds { i < length values.now }
-    requires l_le_i { l ≤ i }
-    requires i_bound { i < 64 }
-    ensures { result ≡ gap (R.Ring.ops ring.now) l (at c.now) (at values.now) i }
-{
-    let mut total = 0;
-    for j in 0..l + 1 {
-        total = ring.add(total, ring.mul(c[j], values[i - j]));
-    }
-    total
-}
-
 // Adds a × the earlier one, moved up by `up` places, to c. No other place is touched.
 fn mend<R: Ring>(ring: &R, c: &mut Coefficients, a: u16, up: usize, before: &Earlier)
     requires room { before.now.l + up ≤ 64 }
@@ -54,8 +30,8 @@ fn mend<R: Ring>(ring: &R, c: &mut Coefficients, a: u16, up: usize, before: &Ear
     requires normal { Normal (R.Ring.ops ring.now).order before.now.l (at before.now.c) }
     ensures { (j : ℕ) → at c.new j ≡ mended (R.Ring.ops ring.now) (at c.old) a up (at before.now.c) j }
 {
-    for j in up..up + before.l + 1 {
-        c[j] = ring.add(c[j], ring.mul(a, before.c[j - up]));
+    for (j, b) in before.c[..before.l + 1].iter().enumerate() {
+        c[up + j] = ring.add(c[up + j], ring.mul(a, *b));
     }
 }
 
@@ -74,7 +50,7 @@ fn step<F: Field>(
     requires held { Held (F.Ring.ops field.now) values.now i l c.old before.old }
     ensures { Held (F.Ring.ops field.now) values.now (i + 1) result c.new before.new }
 {
-    let x = discrepancy(field, values, i, c, l);
+    let x = product_at(field, &c[..l + 1], values, i);
     if x == 0 {
         return l;
     }
@@ -115,6 +91,7 @@ pub fn shortest_recurrence<F: Field>(
         inverse: 1,
     };
     let mut l = 0;
+    // i is no place of an entry, but how many values are taken into account
     for i in 0..values.len() {
         l = step(field, values, i, c, l, &mut before);
     }

@@ -1,6 +1,0 @@
-use Rattle.std.proofs.Common.{zero, suc, refl}
-use Rattle.basics.proofs.Updating.{get_d_zeros}
-use Rattle.solver.proofs.one.Goals as goal
-
-pub returns : goal.returns
-returns c = elim [ zero ↦ refl | suc j ↦ get_d_zeros 64 j ]
