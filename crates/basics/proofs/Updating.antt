@@ -1,6 +1,6 @@
 -- A loop over the places of a list, from the first on.
 use Rattle.std.proofs.Common.{◌≡◌, ℕ, zero, suc, ◌+◌, ◌<◌, ◌≤◌, min, ◌≢◌, List, length, get_or, set, replicate, sym, refl, ap, ◌∙◌, subst, inl, inr, arith, length-set, get_or-set_other, get_or-set_same}
-use native.Mathlib.Decide.{ℕ_discrete, dec_lt}
+use native.Mathlib.Decide.{ℕ_discrete}
 use denote.Param.Members.{Mut, Called}
 use Rattle.std.specs.Array.{IsFromFnResult, IsFromFnResultFrom}
 use Rattle.std.proofs.lemmas.List.{get_or_past, length-replicate}
@@ -43,32 +43,24 @@ pub updated_end : {g : ℕ → ℕ} {xs zs : List ℕ} {m n : ℕ} → m ≡ n �
 updated_end {g} {xs} {zs} e u = subst (λ (k : ℕ). Updated k g xs zs) e u
 
 -- an array made by a function that stays as it is, so that each entry is what it gives of its place
-module _ {F : Type 0} {k : Mut F (ℕ × Unit {0}) ℕ} {f : F} {n : ℕ} (ys : List ℕ) (g : ℕ → ℕ)
-    (entry : (q : F) (i y : ℕ) → i < n → Called k f (i, tt) y q → (q ≡ f) × (y ≡ g i)) where
-  made_from : (i m : ℕ) (p : F) → p ≡ f → IsFromFnResultFrom k p ys i m → i + m ≤ n → (j : ℕ) → i ≤ j → j < i + m → get_or ys j 0 ≡ g j
+module _ {F B : Type 0} {k : Mut F (ℕ × Unit {0}) B} {f : F} {n : ℕ} (ys : List B) (g : ℕ → B)
+    (entry : (q : F) (i : ℕ) (y : B) → i < n → Called k f (i, tt) y q → (q ≡ f) × (y ≡ g i)) (d : B) where
+  made_from : (i m : ℕ) (p : F) → p ≡ f → IsFromFnResultFrom k p ys i m → i + m ≤ n → (j : ℕ) → i ≤ j → j < i + m → get_or ys j d ≡ g j
   made_from i zero p e each few j l h = absurd (omega arith)
   made_from i (suc m) p e (q, y, at, called, rest) few j l h =
       let here = subst (λ (t : F). Called k t (i, tt) y q) e called in let (stays, is) = entry q i y (omega arith) here in
       elim (cases_lt i j) [
         | inl more ↦ made_from (i + 1) m q stays rest (omega arith) j (omega arith) (omega arith)
-        | inr same ↦ let z : j ≡ i = omega arith in ap (λ (t : ℕ). get_or ys t 0) z ∙ at.1 0 ∙ is ∙ ap g (sym z)
+        | inr same ↦ let z : j ≡ i = omega arith in ap (λ (t : ℕ). get_or ys t d) z ∙ at.1 d ∙ is ∙ ap g (sym z)
       ]
 
-  pub updated_made : IsFromFnResult k f ys n → Updated n g (replicate n 0) ys
-  updated_made made = record {
-    long = made.long ∙ sym (length-replicate n 0);
-    new = λ i h l. made_from 0 n f refl made.each (omega arith) i (omega arith) (omega arith);
-    old = λ i h. let z = made.long in get_or_past ys i 0 (omega arith) ∙ sym (get_d_zeros n i);
-  }
+  pub made_at : IsFromFnResult k f ys n → (i : ℕ) → i < n → get_or ys i d ≡ g i
+  made_at made i h = made_from 0 n f refl made.each (omega arith) i (omega arith) (omega arith)
 
--- and where it is 0 from place m on
-pub updated_below : {m n : ℕ} {g h : ℕ → ℕ} {ys : List ℕ} → m ≤ n → Updated n g (replicate n 0) ys → ((i : ℕ) → i < m → g i ≡ h i) → ((i : ℕ) → m ≤ i → ◌≡◌ {A = ℕ} (g i) 0)
-    → Updated m h (replicate n 0) ys
-updated_below {m} {n} few u low high = record {
-  long = u.long;
-  new = λ i a b. u.new i (omega arith) b ∙ low i a;
-  old = λ i a. elim (dec_lt i n) [
-    | yes b ↦ let z = length-replicate {A = ℕ} n 0 in u.new i b (omega arith) ∙ high i a ∙ sym (get_d_zeros n i)
-    | no b ↦ u.old i (omega arith)
-  ];
+pub updated_made : {F : Type 0} {k : Mut F (ℕ × Unit {0}) ℕ} {f : F} {n : ℕ} (ys : List ℕ) (g : ℕ → ℕ)
+    → ((q : F) (i y : ℕ) → i < n → Called k f (i, tt) y q → (q ≡ f) × (y ≡ g i)) → IsFromFnResult k f ys n → Updated n g (replicate n 0) ys
+updated_made {F} {k} {f} {n} ys g entry made = record {
+  long = made.long ∙ sym (length-replicate n 0);
+  new = λ i h l. made_at ys g entry 0 made i h;
+  old = λ i h. let z = made.long in get_or_past ys i 0 (omega arith) ∙ sym (get_d_zeros n i);
 }

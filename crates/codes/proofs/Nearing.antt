@@ -12,6 +12,13 @@ use Rattle.codes.specs.Correct.{Flagged, Tells, Syndromes}
 pub part_long : (n : ℕ) (row : List ℕ) → n ≤ 256 → length row ≡ 256 → length (take n row) ≡ n
 part_long n row h e = length-take n row ∙ omega arith
 
+-- the first r of some values, where all of them are 0
+pub zero_part : (r : ℕ) (xs : List ℕ) → r ≤ length xs → ((j : ℕ) → j < length (take r xs) → get_or (take r xs) j 0 ≡ 0) → (j : ℕ) → j < r → get_or xs j 0 ≡ 0
+zero_part r xs h z j l = sym (get_or-take r xs j 0 l) ∙ z j (omega (arith, length-take r xs))
+
+pub part_zero : (r : ℕ) (xs : List ℕ) → ((j : ℕ) → j < r → get_or xs j 0 ≡ 0) → (j : ℕ) → j < length (take r xs) → get_or (take r xs) j 0 ≡ 0
+part_zero r xs z j l = let h : j < r = omega (arith, length-take r xs) in get_or-take r xs j 0 h ∙ z j h
+
 -- a code row, by its syndromes
 module _ (f : FieldOps) (n r : ℕ) (row ss : List ℕ) (h : n ≤ 256) (e : length row ≡ 256) (s : Syndromes f n r row ss) where
   moment_part : (j : ℕ) → 1 ≤ j → j ≤ r → get_or ss (j - 1) 0 ≡ moment f.ring (length (take n row)) f.point (at (take n row)) j

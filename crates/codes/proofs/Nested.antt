@@ -1,7 +1,7 @@
 -- Horner's rule, and what it comes to.
-use Rattle.std.proofs.Common.{◌≡◌, ℕ, zero, suc, ◌+◌, ◌-◌, ◌<◌, ◌≤◌, Bool, true, false, cond, List, get_or, replicate, sym, refl, ap, ◌∙◌, ap₂, add-one, arith}
+use Rattle.std.proofs.Common.{◌≡◌, ℕ, zero, suc, ◌+◌, ◌<◌, ◌≤◌, Bool, true, false, cond, List, get_or, replicate, sym, refl, ap, ◌∙◌, ap₂, add-one, arith}
 use Rattle.fields.specs.Rings.{RingOps}
-use Rattle.algebra.specs.Polynomials.{times, product, turned}
+use Rattle.algebra.specs.Polynomials.{unit, times, product, turned}
 use Rattle.algebra.specs.Recurrences.{at}
 use Rattle.basics.specs.Lists.{Updated}
 use Rattle.algebra.proofs.Ring.{Solid}
@@ -31,11 +31,10 @@ unfolding nested
 nested_more o x c j s e = rw (add-one j) (ap (λ t. o.add (o.mul x t) (c j)) e)
 
 -- the product of factors, coefficient by coefficient
-pub product_none : (o : RingOps) (t : ℕ → Bool) (p : ℕ → ℕ) (c : List ℕ) → get_or c 0 0 ≡ 1 → ((j : ℕ) → 0 < j → get_or c j 0 ≡ 0)
+pub product_none : (o : RingOps) (t : ℕ → Bool) (p : ℕ → ℕ) (c : List ℕ) → ((j : ℕ) → get_or c j 0 ≡ unit 0 j)
     → (j : ℕ) → j < 65 → get_or c j 0 ≡ product o 0 t p j
 unfolding product
-product_none o t p c e f zero h = e
-product_none o t p c e f (suc j) h = f (suc j) (omega arith)
+product_none o t p c e j h = e j
 
 -- one more column, with its factor or without
 product_step : (o : RingOps) (t : ℕ → Bool) (p : ℕ → ℕ) (k : ℕ) (b : List ℕ) → ((j : ℕ) → j < 65 → get_or b j 0 ≡ product o k t p j)

@@ -1,25 +1,9 @@
--- Values set at places of a row, and rows set in a page.
+-- Values set at places of a row.
 use Rattle.std.proofs.Common.{◌≡◌, ℕ, ◌+◌, ◌<◌, true, List, length, get_or, set, sym, refl, ◌∙◌, arith, length-set, get_or-set_other, get_or-set_same}
 use native.Mathlib.Decide.{ℕ_discrete}
 use Rattle.algebra.specs.Rows.{rising}
 use Rattle.algebra.proofs.Columns.{rising_apart}
-use Rattle.codes.specs.Fill.{Placed, Stored}
-
-pub stored_none : (s : ℕ) (vs xs : List ℕ) → Stored s 0 vs xs xs
-stored_none s vs xs = record { long = refl; inside = λ i h. absurd (omega arith); before = λ i h. refl; after = λ i h. refl }
-
--- one more place
-pub stored_more : (s n : ℕ) (vs xs ys : List ℕ) → Stored s n vs xs ys → s + n < length xs → Stored s (n + 1) vs xs (set ys (s + n) (get_or vs n 0))
-stored_more s n vs xs ys u h = record {
-  long = length-set _ _ _ ∙ u.long;
-  inside = λ i g. inside i g (ℕ_discrete i n);
-  before = λ i g. get_or-set_other ys (s + n) i _ 0 (omega arith) ∙ u.before i g;
-  after = λ i g. get_or-set_other ys (s + n) i _ 0 (omega arith) ∙ u.after i (omega arith);
-}
-  where
-    inside : (i : ℕ) → i < n + 1 → Dec (i ≡ n) → get_or (set ys (s + n) (get_or vs n 0)) (s + i) 0 ≡ get_or vs i 0
-    inside i g (yes p) = let e = u.long in rw p (get_or-set_same ys (s + n) (get_or vs n 0) 0 (omega arith))
-    inside i g (no p) = get_or-set_other ys (s + n) (s + i) _ 0 (omega arith) ∙ u.inside i (omega arith)
+use Rattle.codes.specs.Fill.{Placed}
 
 pub placed_none : (ms vs xs : List ℕ) → Placed 0 ms vs xs xs
 placed_none ms vs xs = record { long = refl; at = λ k h. absurd (omega arith); off = λ i h. refl }

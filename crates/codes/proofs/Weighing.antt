@@ -1,5 +1,6 @@
 -- The table by which columns are filled, from the steps that make it.
-use Rattle.std.proofs.Common.{◌≡◌, ℕ, zero, suc, ◌+◌, ◌-◌, ◌<◌, ◌≤◌, Bool, true, cond, List, get_or, refl, ap, ◌∙◌, ap₂, add-one, arith}
+use Rattle.std.proofs.Common.{◌≡◌, ℕ, zero, suc, ◌+◌, ◌-◌, ◌<◌, ◌≤◌, Bool, true, false, cond, List, length, take, get_or, refl, ap, ◌∙◌, ap₂, add-one, arith}
+use Rattle.std.proofs.lemmas.List.{length-take-le, get_or-take}
 use Rattle.fields.specs.Rings.{RingOps, entry}
 use Rattle.algebra.specs.Polynomials.{times, product, turned, quotient, gamma, weight, filler}
 use Rattle.algebra.proofs.Ring.{Solid}
@@ -19,6 +20,14 @@ unfolding product
 product_tests o zero t u p e = refl
 product_tests o (suc n) t u p e =
     ap₂ (λ (b : Bool) (c : ℕ → ℕ). cond b (times o (p n) c) c) (e n (omega arith)) (product_tests o n t u p (λ k h. e k (omega arith)))
+
+-- the product over the first n flags
+pub product_part : (o : RingOps) (p : ℕ → ℕ) (n : ℕ) (flags : List Bool) (c : List ℕ) → n ≤ length flags
+    → ((j : ℕ) → j < 65 → get_or c j 0 ≡ product o (length (take n flags)) (λ k. get_or (take n flags) k false) p j)
+    → (j : ℕ) → j < 65 → get_or c j 0 ≡ product o n (λ k. get_or flags k false) p j
+product_part o p n flags c h e j l =
+    e j l ∙ ap (λ (m : ℕ). product o m (λ k. get_or (take n flags) k false) p j) (length-take-le n flags h)
+    ∙ ap (λ (t : ℕ → ℕ). t j) (product_tests o n (λ k. get_or (take n flags) k false) (λ k. get_or flags k false) p (λ k g. get_or-take n flags k false g))
 
 -- what is made on the way, for r columns whose points are p: the points, their locator, its quotients, the quotients' values, weights
 pub record Steps (o : RingOps) (inv : ℕ → ℕ) (r : ℕ) (p : ℕ → ℕ) (points locator values weights : List ℕ) (quotients table : List (List ℕ)) : Type 0 where

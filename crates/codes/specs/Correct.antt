@@ -1,5 +1,5 @@
 -- Which rows can be corrected, and what correcting leaves.
-use Rattle.std.specs.Prelude.{◌≡◌, ℕ, ◌+◌, ◌-◌, ◌*◌, ◌%◌, ◌<◌, ◌≤◌, min, Bool, true, false, cond, not, ◌||◌, List, length, take, drop, Some, None, Option, ◌==◌, nat_lt, slice_index, slice_index_or}
+use Rattle.std.specs.Prelude.{◌≡◌, ℕ, ◌+◌, ◌-◌, ◌*◌, ◌%◌, ◌<◌, ◌≤◌, min, Bool, true, false, cond, not, ◌||◌, List, length, take, Some, None, Option, ◌==◌, nat_lt, slice_index, slice_index_or}
 use Rattle.basics.specs.Checks.{check, ◌or_else◌}
 use Rattle.basics.specs.Lists.{row_of}
 use Rattle.fields.specs.Rings.{RingOps, FieldOps, Inverses, Points}
@@ -90,14 +90,7 @@ pub record Ready (f : FieldOps) (inv : ℕ → ℕ) (ms : List ℕ) (t : Tables)
 pub record Syndromes (f : FieldOps) (n r : ℕ) (row ss : List ℕ) : Type 0 where
   pub is : (j : ℕ) → j < r → slice_index ss j ≡ moment f.ring n f.point (at (take n row)) (j + 1)
 
--- the row of n symbols from place s on is corrected, and all else is as it was
-pub record CorrectedAt (f : FieldOps) (n r : ℕ) (ms : List ℕ) (s : ℕ) (xs ys : List ℕ) : Type 0 where
-  pub long : length ys ≡ length xs
-  pub row : Corrected f r ms (taken_row f.ring.order (take n (drop s xs))) (take n (drop s ys))
-  pub before : (i : ℕ) → i < s → slice_index ys i ≡ slice_index xs i
-  pub after : (i : ℕ) → s + n ≤ i → slice_index ys i ≡ slice_index xs i
-
--- no code row is close enough to it, and all is as it was
-pub record LostAt (f : FieldOps) (n r : ℕ) (ms : List ℕ) (s : ℕ) (xs ys : List ℕ) : Type 0 where
+-- no code row is close enough to the row xs, and ys is xs
+pub record LostSymbols (f : FieldOps) (r : ℕ) (ms xs ys : List ℕ) : Type 0 where
   pub same : ys ≡ xs
-  pub none : (cs : List ℕ) → CloseRow f r ms (taken_row f.ring.order (take n (drop s xs))) cs → ⊥
+  pub none : (cs : List ℕ) → CloseRow f r ms (taken_row f.ring.order xs) cs → ⊥

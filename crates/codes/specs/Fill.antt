@@ -1,5 +1,5 @@
 -- Which rows can be filled, and what filling leaves.
-use Rattle.std.specs.Prelude.{◌≡◌, ℕ, zero, suc, ◌+◌, ◌-◌, ◌*◌, ◌%◌, ◌<◌, ◌≤◌, min, true, cond, not, ◌||◌, List, length, take, drop, Option, ◌==◌, ◌≢◌, nat_lt, slice_index}
+use Rattle.std.specs.Prelude.{◌≡◌, ℕ, zero, suc, ◌+◌, ◌-◌, ◌*◌, ◌%◌, ◌<◌, ◌≤◌, min, true, cond, not, ◌||◌, List, length, Option, ◌==◌, ◌≢◌, nat_lt, slice_index}
 use Rattle.basics.specs.Checks.{check, ◌or_else◌}
 use Rattle.basics.specs.Lists.{row_of}
 use Rattle.fields.specs.Rings.{RingOps, FieldOps, taken, power, entry}
@@ -53,24 +53,10 @@ pub record Placed (n : ℕ) (ms vs xs ys : List ℕ) : Type 0 where
   pub at : (k : ℕ) → k < n → slice_index ys (slice_index ms k) ≡ slice_index vs k
   pub off : (i : ℕ) → ((k : ℕ) → k < n → slice_index ms k ≢ i) → slice_index ys i ≡ slice_index xs i
 
--- the row holds the n symbols of xs from place s on, with 0 in place of those of the order q or above, and in the columns ms
-pub record Copied (q n : ℕ) (ms : List ℕ) (s : ℕ) (xs row : List ℕ) : Type 0 where
+-- the row holds the symbols of xs, with 0 in place of those of the order q or above, and in the columns ms
+pub record Copied (q : ℕ) (ms : List ℕ) (xs row : List ℕ) : Type 0 where
   pub long : length row ≡ 256
-  pub is : (k : ℕ) → k < n → slice_index row k ≡ cond (among k ms) 0 (taken q (slice_index xs (s + k)))
-
--- ys is xs with the first n of vs from place s on
-pub record Stored (s n : ℕ) (vs xs ys : List ℕ) : Type 0 where
-  pub long : length ys ≡ length xs
-  pub inside : (i : ℕ) → i < n → slice_index ys (s + i) ≡ slice_index vs i
-  pub before : (i : ℕ) → i < s → slice_index ys i ≡ slice_index xs i
-  pub after : (i : ℕ) → s + n ≤ i → slice_index ys i ≡ slice_index xs i
-
--- ys is xs with the columns ms filled of the row of n symbols from place s on
-pub record FilledAt (f : FieldOps) (n : ℕ) (ms : List ℕ) (s : ℕ) (xs ys : List ℕ) : Type 0 where
-  pub long : length ys ≡ length xs
-  pub row : Filled f ms (take n (drop s xs)) (take n (drop s ys))
-  pub before : (i : ℕ) → i < s → slice_index ys i ≡ slice_index xs i
-  pub after : (i : ℕ) → s + n ≤ i → slice_index ys i ≡ slice_index xs i
+  pub is : (k : ℕ) → k < length xs → slice_index row k ≡ cond (among k ms) 0 (taken q (slice_index xs k))
 
 -- each row of ys is the row of xs with the columns ms filled
 pub record FilledRows (f : FieldOps) (n : ℕ) (ms xs ys : List ℕ) : Type 0 where

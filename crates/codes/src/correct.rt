@@ -2,17 +2,17 @@
 ghost use Rattle.std.specs.Prelude.{◌≡◌, ℕ, ◌+◌, ◌-◌, ◌*◌, ◌<◌, ◌≤◌, true, false, not, ◌||◌, List, length, get_or, take, replicate, if◌then◌else◌, None, MatchOption, MatchResult, OnOk, ◌==◌, slice_index, slice_index_or};
 ghost use Rattle.basics.specs.Checks.{verdict};
 ghost use Rattle.basics.specs.Lists.{Updated};
-ghost use Rattle.algebra.specs.Rows.{among, count, CloseRow};
+ghost use Rattle.algebra.specs.Rows.{among, count, taken_row, CloseRow, Corrected};
 ghost use Rattle.algebra.specs.Polynomials.{product, multiple, derivative};
 ghost use Rattle.algebra.specs.Recurrences.{at, Shortest};
 ghost use Rattle.algebra.specs.Coefficients.{product_entry, value_at};
-ghost use Rattle.codes.specs.Fill.{Tabled, power_of};
-ghost use Rattle.codes.specs.Correct.{correct_fault, FitsChecks, Flagged, repaired_at, Tells, Ready, Syndromes, CorrectedAt, LostAt, refusal, CorrectedRows, Left};
+ghost use Rattle.codes.specs.Correct.{correct_fault, FitsChecks, Flagged, repaired_at, Tells, Ready, Syndromes, LostSymbols, refusal, CorrectedRows, Left};
 
-use crate::poly::{evaluate, one, product_at, times_factor};
-use crate::rows::{cleared, power_table, rises, rules, store};
+use crate::rows::{Row, cleared, power_table, rises, rules};
+use algebra::poly::{Coefficients, evaluate, one, product_at, times_factor};
 use fields::{Field, LANES, Lanes, Ring};
 use solver::shortest_recurrence;
+use std::array;
 
 // Why rows are not corrected.
 #[derive(Clone, Copy, PartialEq, Eq, Debug)]
@@ -30,21 +30,31 @@ pub enum CorrectFault {
 }
 
 // What correcting needs of every row: how many columns and checks there are, the powers 1 and up of each column's point, its
-// inverse, the marked columns, and the product of 1 − a z over their points a.
+// inverse, the marked columns, and the product of 1 − a z over their points a. Each stands in a list of its own, since sums go
+// over whole lists of powers, and products over whole lists of coefficients.
 #[derive(Drop)]
 struct Tables {
     width: usize,
     checks: usize,
     powers: [Lanes; 256],
-    inverses: [u16; 256],
+    inverses: Row,
     marks: [bool; 256],
-    locator: [u16; 65],
+    locator: Coefficients,
+}
+
+// Corrects rows with these marked columns.
+#[derive(Drop)]
+struct Corrector<'a, F: Field> {
+    field: &'a F,
+    marked: &'a [u16],
+    tables: Tables,
+    ghost ready: { Ready (record { ring = F.Ring.ops field.now; point = F.Field.points field.now }) (F.Field.inv field.now) marked.now tables },
 }
 
 // A recurrence: its coefficients, the constant 1 first, and its length.
 #[derive(Drop)]
 struct Recurrence {
-    c: [u16; 65],
+    c: Coefficients,
     l: usize,
 }
 
@@ -83,13 +93,13 @@ fn check(
 }
 
 // The inverses of the points of the columns below the width.
-fn inverse_points<F: Field>(field: &F, width: usize) -> [u16; 256]
+fn inverse_points<F: Field>(field: &F, width: usize) -> Row
     requires { width ≤ 256 }
     ensures { Updated width (λ i. F.Field.inv field.now (F.Field.points field.now i)) (replicate 256 0) result }
 {
     let mut inverses = [0; 256];
-    for i in 0..width {
-        inverses[i] = field.inverse(field.point(i as u16));
+    for (i, inverse) in inverses[..width].iter_mut().enumerate() {
+        *inverse = field.inverse(field.point(i as u16));
     }
     inverses
 }
@@ -98,33 +108,24 @@ fn inverse_points<F: Field>(field: &F, width: usize) -> [u16; 256]
 pub fn is_marked(marked: &[u16], column: usize) -> bool
     ensures { result ≡ among column marked.now }
 {
-    for m in marked {
-        if *m as usize == column {
-            return true;
-        }
-    }
-    false
+    marked.iter().any(|m| *m as usize == column)
 }
 
 // The marked columns, as flags.
 pub fn flags(marked: &[u16]) -> [bool; 256]
     ensures { Flagged 256 (λ k. among k marked.now) result }
 {
-    let mut flags = [false; 256];
-    for k in 0..256usize {
-        flags[k] = is_marked(marked, k);
-    }
-    flags
+    array::from_fn(|k| is_marked(marked, k))
 }
 
 // The product of 1 − a z over the points a of the flagged columns.
-fn locator<F: Field>(field: &F, columns: &[bool; 256], width: usize) -> [u16; 65]
-    requires { width ≤ 256 }
-    ensures { (j : ℕ) → j < 65 → slice_index result j ≡ product (F.Ring.ops field.now) width (λ k. get_or columns.now k false) (F.Field.points field.now) j }
+fn locator<F: Field>(field: &F, columns: &[bool]) -> Coefficients
+    requires { length columns.now ≤ 256 }
+    ensures { (j : ℕ) → j < 65 → slice_index result j ≡ product (F.Ring.ops field.now) (length columns.now) (λ k. get_or columns.now k false) (F.Field.points field.now) j }
 {
     let mut locator = one();
-    for k in 0..width {
-        if columns[k] {
+    for (k, flagged) in columns.iter().enumerate() {
+        if *flagged {
             locator = times_factor(field, field.point(k as u16), &locator);
         }
     }
@@ -132,13 +133,13 @@ fn locator<F: Field>(field: &F, columns: &[bool; 256], width: usize) -> [u16; 65
 }
 
 // The polynomial c times the one whose coefficients are the syndromes, without the powers from `checks` on.
-fn times_syndromes<R: Ring>(ring: &R, c: &[u16; 65], syndromes: &Lanes, checks: usize) -> Lanes
+fn times_syndromes<R: Ring>(ring: &R, c: &Coefficients, syndromes: &Lanes, checks: usize) -> Lanes
     requires { checks ≤ 64 }
     ensures { Updated checks (product_entry (R.Ring.ops ring.now) c.now syndromes.now) (replicate 64 0) result }
 {
     let mut product = [0; LANES];
-    for m in 0..checks {
-        product[m] = product_at(ring, c, syndromes, m);
+    for (m, coefficient) in product[..checks].iter_mut().enumerate() {
+        *coefficient = product_at(ring, c, syndromes, m);
     }
     product
 }
@@ -148,20 +149,20 @@ fn multiple_of<R: Ring>(ring: &R, often: usize, a: u16) -> u16
     ensures { result ≡ multiple (R.Ring.ops ring.now) often a }
 {
     let mut total = 0;
-    for j in 0..often {
+    for _turn in 0..often {
         total = ring.add(a, total);
     }
     total
 }
 
 // The derivative of the polynomial c, without the powers from `checks` on.
-fn derivative_of<R: Ring>(ring: &R, c: &[u16; 65], checks: usize) -> Lanes
+fn derivative_of<R: Ring>(ring: &R, c: &Coefficients, checks: usize) -> Lanes
     requires { checks ≤ 64 }
     ensures { Updated checks (derivative (R.Ring.ops ring.now) (at c.now)) (replicate 64 0) result }
 {
     let mut derivative = [0; LANES];
-    for j in 0..checks {
-        derivative[j] = multiple_of(ring, j + 1, c[j + 1]);
+    for (j, coefficient) in derivative[..checks].iter_mut().enumerate() {
+        *coefficient = multiple_of(ring, j + 1, c[j + 1]);
     }
     derivative
 }
@@ -185,65 +186,141 @@ fn is_damaged<R: Ring>(ring: &R, marked: bool, found: &Recurrence, inverse: u16)
     requires { found.now.l ≤ 64 }
     ensures { result ≡ (marked || value_at (R.Ring.ops ring.now) (take (found.now.l + 1) found.now.c) inverse == 0) }
 {
-    marked || evaluate(ring, &found.c[0..found.l + 1], inverse) == 0
+    marked || evaluate(ring, &found.c[..found.l + 1], inverse) == 0
 }
 
-// The damaged columns.
-fn damaged<R: Ring>(ring: &R, tables: &Tables, found: &Recurrence) -> [bool; 256]
-    requires { (tables.now.width ≤ 256) × (found.now.l ≤ 64) }
-    ensures { Flagged tables.now.width (λ k. slice_index_or tables.now.marks k false || value_at (R.Ring.ops ring.now) (take (found.now.l + 1) found.now.c) (slice_index tables.now.inverses k) == 0) result }
-{
-    let mut columns = [false; 256];
-    for k in 0..tables.width {
-        columns[k] = is_damaged(ring, tables.marks[k], found, tables.inverses[k]);
+impl<'a, F: Field> Corrector<'a, F> {
+    // The damaged columns.
+    fn damaged(&self, found: &Recurrence) -> [bool; 256]
+        requires { found.now.l ≤ 64 }
+        ensures { Flagged self.now.tables.width (λ k. slice_index_or self.now.tables.marks k false || value_at (F.Ring.ops self.now.field.now) (take (found.now.l + 1) found.now.c) (slice_index self.now.tables.inverses k) == 0) result }
+    {
+        let tables = &self.tables;
+        let mut columns = [false; 256];
+        for (k, column) in columns[..tables.width].iter_mut().enumerate() {
+            *column = is_damaged(self.field, tables.marks[k], found, tables.inverses[k]);
+        }
+        columns
     }
-    columns
-}
 
-// The symbol of a column: where it is damaged, Forney's value at the inverse of its point is subtracted from it.
-fn repaired_symbol<F: Field>(
-    field: &F,
-    damage: &Damage,
-    checks: usize,
-    column: usize,
-    inverse: u16,
-    symbol: u16,
-) -> u16
-    requires { (checks ≤ 64) × (column < 256) }
-    ensures { result ≡ repaired_at (F.Ring.ops field.now) (F.Field.inv field.now) damage.now checks column inverse symbol }
-{
-    if !damage.columns[column] {
-        return symbol;
+    // The symbol of a column: where it is damaged, Forney's value at the inverse of its point is subtracted from it.
+    fn repaired_symbol(&self, damage: &Damage, column: usize, symbol: u16) -> u16
+        requires { column < 256 }
+        ensures { result ≡ repaired_at (F.Ring.ops self.now.field.now) (F.Field.inv self.now.field.now) damage.now self.now.tables.checks column (slice_index self.now.tables.inverses column) symbol }
+    {
+        if !damage.columns[column] {
+            return symbol;
+        }
+        let field = self.field;
+        let checks = self.tables.checks;
+        let inverse = self.tables.inverses[column];
+        let above = evaluate(field, &damage.above[..checks], inverse);
+        let below = evaluate(field, &damage.below[..checks], inverse);
+        let value = field.neg(field.mul(above, field.inverse(below)));
+        field.add(symbol, field.neg(value))
     }
-    let above = evaluate(field, &damage.above[0..checks], inverse);
-    let below = evaluate(field, &damage.below[0..checks], inverse);
-    let value = field.neg(field.mul(above, field.inverse(below)));
-    field.add(symbol, field.neg(value))
-}
 
-// The row with its damaged columns repaired.
-fn repaired<F: Field>(field: &F, tables: &Tables, damage: &Damage, row: &[u16; 256]) -> [u16; 256]
-    requires { (tables.now.width ≤ 256) × (tables.now.checks ≤ 64) }
-    ensures { Updated tables.now.width (λ k. repaired_at (F.Ring.ops field.now) (F.Field.inv field.now) damage.now tables.now.checks k (slice_index tables.now.inverses k) (slice_index row.now k)) (replicate 256 0) result }
-{
-    let mut repaired = [0; 256];
-    for k in 0..tables.width {
-        repaired[k] = repaired_symbol(field, damage, tables.checks, k, tables.inverses[k], row[k]);
+    // The row with its damaged columns repaired.
+    fn repaired(&self, damage: &Damage, row: &Row) -> Row
+        ensures { Updated self.now.tables.width (λ k. repaired_at (F.Ring.ops self.now.field.now) (F.Field.inv self.now.field.now) damage.now self.now.tables.checks k (slice_index self.now.tables.inverses k) (slice_index row.now k)) (replicate 256 0) result }
+    {
+        let mut repaired = [0; 256];
+        for (k, symbol) in repaired[..self.tables.width].iter_mut().enumerate() {
+            *symbol = self.repaired_symbol(damage, k, row[k]);
+        }
+        repaired
     }
-    repaired
-}
 
-// Whether the first `count` values are all 0.
-fn all_zero(values: &Lanes, count: usize) -> bool
-    requires { count ≤ 64 }
-    ensures { Tells result ((j : ℕ) → j < count → slice_index values.now j ≡ 0) }
-{
-    for j in 0..count {
-        if values[j] != 0 {
+    // How many columns that are not marked differ.
+    fn distance(&self, a: &Row, b: &Row) -> usize
+        ensures few { result ≤ self.now.tables.width }
+        ensures value { result ≡ count self.now.tables.width (λ k. not (slice_index_or self.now.tables.marks k false || slice_index a.now k == slice_index b.now k)) }
+    {
+        let mut total: usize = 0;
+        for (k, marked) in self.tables.marks[..self.tables.width].iter().enumerate() {
+            total += differs(*marked, a[k], b[k]);
+        }
+        total
+    }
+
+    // The syndromes 1 and up of a row.
+    fn syndromes_of(&self, row: &Row) -> Lanes
+        ensures { Syndromes (record { ring = F.Ring.ops self.now.field.now; point = F.Field.points self.now.field.now }) self.now.tables.width self.now.tables.checks row.now result }
+    {
+        let tables = &self.tables;
+        self.field
+            .combine(&row[..tables.width], &tables.powers, tables.checks)
+    }
+
+    // The row that is close enough, if there is one: a shortest recurrence of the syndromes, without what the marked columns add to
+    // them, is 0 at the inverses of the points of the other columns that are damaged, and Forney's values repair them.
+    fn candidate(&self, row: &Row, syndromes: &Lanes) -> Row
+        requires elements { (k : ℕ) → k < self.now.tables.width → slice_index row.now k < (F.Ring.ops self.now.field.now).order }
+        requires syndromes { Syndromes (record { ring = F.Ring.ops self.now.field.now; point = F.Field.points self.now.field.now }) self.now.tables.width self.now.tables.checks row.now syndromes.now }
+        ensures elements { (k : ℕ) → k < self.now.tables.width → slice_index result k < (F.Ring.ops self.now.field.now).order }
+        ensures only { (cs : List ℕ) → CloseRow (record { ring = F.Ring.ops self.now.field.now; point = F.Field.points self.now.field.now }) self.now.tables.checks self.now.marked.now (take self.now.tables.width row.now) cs → take self.now.tables.width result ≡ cs }
+    {
+        let field = self.field;
+        let checks = self.tables.checks;
+        let rest = times_syndromes(field, &self.tables.locator, syndromes, checks);
+        let found = shortest(field, &rest[self.marked.len()..checks]);
+        let columns = self.damaged(&found);
+        let locator = locator(field, &columns[..self.tables.width]);
+        let damage = Damage {
+            columns,
+            above: times_syndromes(field, &locator, syndromes, checks),
+            below: derivative_of(field, &locator, checks),
+        };
+        self.repaired(&damage, row)
+    }
+
+    // Whether the repaired row is a code row that is close enough to the row.
+    fn is_close(&self, row: &Row, repaired: &Row) -> bool
+        requires { (k : ℕ) → k < self.now.tables.width → slice_index repaired.now k < (F.Ring.ops self.now.field.now).order }
+        ensures { Tells result (CloseRow (record { ring = F.Ring.ops self.now.field.now; point = F.Field.points self.now.field.now }) self.now.tables.checks self.now.marked.now (take self.now.tables.width row.now) (take self.now.tables.width repaired.now)) }
+    {
+        let left = self.syndromes_of(repaired);
+        if !all_zero(&left[..self.tables.checks]) {
             return false;
         }
+        2 * self.distance(repaired, row) + self.marked.len() <= self.tables.checks
     }
-    true
+
+    // The code row that is close enough to the row, or None where there is none.
+    fn decode(&self, row: &Row) -> Option<Row>
+        requires { (k : ℕ) → k < self.now.tables.width → slice_index row.now k < (F.Ring.ops self.now.field.now).order }
+        ensures { MatchOption result ((cs : List ℕ) → CloseRow (record { ring = F.Ring.ops self.now.field.now; point = F.Field.points self.now.field.now }) self.now.tables.checks self.now.marked.now (take self.now.tables.width row.now) cs → ⊥) (λ v. CloseRow (record { ring = F.Ring.ops self.now.field.now; point = F.Field.points self.now.field.now }) self.now.tables.checks self.now.marked.now (take self.now.tables.width row.now) (take self.now.tables.width v)) }
+    {
+        let syndromes = self.syndromes_of(row);
+        if all_zero(&syndromes[..self.tables.checks]) {
+            return Some(*row);
+        }
+        let repaired = self.candidate(row, &syndromes);
+        if !self.is_close(row, &repaired) {
+            return None;
+        }
+        Some(repaired)
+    }
+
+    // Corrects one row, or leaves it where no code row is close enough to it.
+    fn correct(&self, symbols: &mut [u16]) -> Option<()>
+        requires { length symbols.old ≡ self.now.tables.width }
+        ensures { MatchOption result (LostSymbols (record { ring = F.Ring.ops self.now.field.now; point = F.Field.points self.now.field.now }) self.now.tables.checks self.now.marked.now symbols.old symbols.new) (λ _. Corrected (record { ring = F.Ring.ops self.now.field.now; point = F.Field.points self.now.field.now }) self.now.tables.checks self.now.marked.now (taken_row (F.Ring.ops self.now.field.now).order symbols.old) symbols.new) }
+    {
+        let row = cleared(self.field, self.marked, symbols);
+        let Some(found) = self.decode(&row) else {
+            return None;
+        };
+        symbols.copy_from_slice(&found[..self.tables.width]);
+        Some(())
+    }
+}
+
+// Whether the values are all 0.
+fn all_zero(values: &[u16]) -> bool
+    ensures { Tells result ((j : ℕ) → j < length values.now → slice_index values.now j ≡ 0) }
+{
+    values.iter().all(|v| *v == 0)
 }
 
 // 1 where the symbols of a column differ and it is not marked, else 0.
@@ -251,118 +328,6 @@ fn differs(marked: bool, a: u16, b: u16) -> usize
     ensures { result ≡ (if not (marked || a == b) then 1 else 0) }
 {
     if marked || a == b { 0 } else { 1 }
-}
-
-// How many columns that are not marked differ.
-fn distance(tables: &Tables, a: &[u16; 256], b: &[u16; 256]) -> usize
-    requires { tables.now.width ≤ 256 }
-    ensures few { result ≤ tables.now.width }
-    ensures value { result ≡ count tables.now.width (λ k. not (slice_index_or tables.now.marks k false || slice_index a.now k == slice_index b.now k)) }
-{
-    let mut total: usize = 0;
-    for k in 0..tables.width {
-        total += differs(tables.marks[k], a[k], b[k]);
-    }
-    total
-}
-
-// The syndromes 1 and up of a row.
-fn syndromes_of<F: Field>(field: &F, tables: &Tables, row: &[u16; 256]) -> Lanes
-    requires width { tables.now.width ≤ 256 }
-    requires checks { tables.now.checks ≤ 64 }
-    requires powers { Tabled tables.now.width tables.now.checks (power_of (F.Ring.ops field.now) (F.Field.points field.now)) tables.now.powers }
-    ensures { Syndromes (record { ring = F.Ring.ops field.now; point = F.Field.points field.now }) tables.now.width tables.now.checks row.now result }
-{
-    field.combine(&row[0..tables.width], &tables.powers, tables.checks)
-}
-
-// The row that is close enough, if there is one: a shortest recurrence of the syndromes, without what the marked columns add to
-// them, is 0 at the inverses of the points of the other columns that are damaged, and Forney's values repair them.
-fn candidate<F: Field>(
-    field: &F,
-    marked: &[u16],
-    tables: &Tables,
-    row: &[u16; 256],
-    syndromes: &Lanes,
-) -> [u16; 256]
-    requires ready { Ready (record { ring = F.Ring.ops field.now; point = F.Field.points field.now }) (F.Field.inv field.now) marked.now tables.now }
-    requires elements { (k : ℕ) → k < tables.now.width → slice_index row.now k < (F.Ring.ops field.now).order }
-    requires syndromes { Syndromes (record { ring = F.Ring.ops field.now; point = F.Field.points field.now }) tables.now.width tables.now.checks row.now syndromes.now }
-    ensures elements { (k : ℕ) → k < tables.now.width → slice_index result k < (F.Ring.ops field.now).order }
-    ensures only { (cs : List ℕ) → CloseRow (record { ring = F.Ring.ops field.now; point = F.Field.points field.now }) tables.now.checks marked.now (take tables.now.width row.now) cs → take tables.now.width result ≡ cs }
-{
-    let rest = times_syndromes(field, &tables.locator, syndromes, tables.checks);
-    let found = shortest(field, &rest[marked.len()..tables.checks]);
-    let columns = damaged(field, tables, &found);
-    let locator = locator(field, &columns, tables.width);
-    let damage = Damage {
-        columns,
-        above: times_syndromes(field, &locator, syndromes, tables.checks),
-        below: derivative_of(field, &locator, tables.checks),
-    };
-    repaired(field, tables, &damage, row)
-}
-
-// Whether the repaired row is a code row that is close enough to the row.
-fn is_close<F: Field>(
-    field: &F,
-    marked: &[u16],
-    tables: &Tables,
-    row: &[u16; 256],
-    repaired: &[u16; 256],
-) -> bool
-    requires ready { Ready (record { ring = F.Ring.ops field.now; point = F.Field.points field.now }) (F.Field.inv field.now) marked.now tables.now }
-    requires elements { (k : ℕ) → k < tables.now.width → slice_index repaired.now k < (F.Ring.ops field.now).order }
-    ensures { Tells result (CloseRow (record { ring = F.Ring.ops field.now; point = F.Field.points field.now }) tables.now.checks marked.now (take tables.now.width row.now) (take tables.now.width repaired.now)) }
-{
-    let left = syndromes_of(field, tables, repaired);
-    if !all_zero(&left, tables.checks) {
-        return false;
-    }
-    2 * distance(tables, repaired, row) + marked.len() <= tables.checks
-}
-
-// The code row that is close enough to the row, or None where there is none.
-fn decode<F: Field>(
-    field: &F,
-    marked: &[u16],
-    tables: &Tables,
-    row: &[u16; 256],
-) -> Option<[u16; 256]>
-    requires ready { Ready (record { ring = F.Ring.ops field.now; point = F.Field.points field.now }) (F.Field.inv field.now) marked.now tables.now }
-    requires elements { (k : ℕ) → k < tables.now.width → slice_index row.now k < (F.Ring.ops field.now).order }
-    ensures { MatchOption result ((cs : List ℕ) → CloseRow (record { ring = F.Ring.ops field.now; point = F.Field.points field.now }) tables.now.checks marked.now (take tables.now.width row.now) cs → ⊥) (λ v. CloseRow (record { ring = F.Ring.ops field.now; point = F.Field.points field.now }) tables.now.checks marked.now (take tables.now.width row.now) (take tables.now.width v)) }
-{
-    let syndromes = syndromes_of(field, tables, row);
-    if all_zero(&syndromes, tables.checks) {
-        return Some(*row);
-    }
-    let repaired = candidate(field, marked, tables, row, &syndromes);
-    if !is_close(field, marked, tables, row, &repaired) {
-        return None;
-    }
-    Some(repaired)
-}
-
-// Corrects the row from `start` on, or says that no code row is close enough to it.
-fn correct_row<F: Field>(
-    field: &F,
-    marked: &[u16],
-    tables: &Tables,
-    rows: &mut [u16],
-    start: usize,
-) -> bool
-    requires inside { start + tables.now.width ≤ length rows.old }
-    requires ready { Ready (record { ring = F.Ring.ops field.now; point = F.Field.points field.now }) (F.Field.inv field.now) marked.now tables.now }
-    ensures found { result ≡ true → CorrectedAt (record { ring = F.Ring.ops field.now; point = F.Field.points field.now }) tables.now.width tables.now.checks marked.now start rows.old rows.new }
-    ensures lost { result ≡ false → LostAt (record { ring = F.Ring.ops field.now; point = F.Field.points field.now }) tables.now.width tables.now.checks marked.now start rows.old rows.new }
-{
-    let row = cleared(field, marked, rows, start, tables.width);
-    let Some(found) = decode(field, marked, tables, &row) else {
-        return false;
-    };
-    store(rows, start, &found, tables.width);
-    true
 }
 
 // Corrects every row of `width` symbols: each becomes the one code row, with that many checks, that is close enough to it, which
@@ -381,18 +346,23 @@ pub fn correct_rows<F: Field>(
     check(field.order(), width, checks, marked, rows.len())?;
     rules(field);
     let marks = flags(marked);
-    let tables = Tables {
-        width,
-        checks,
-        powers: power_table(field, width, checks),
-        inverses: inverse_points(field, width),
-        marks,
-        locator: locator(field, &marks, width),
+    let corrector = Corrector {
+        field,
+        marked,
+        tables: Tables {
+            width,
+            checks,
+            powers: power_table(field, width, checks),
+            inverses: inverse_points(field, width),
+            marks,
+            locator: locator(field, &marks[..width]),
+        },
     };
+    // by their places, since nothing is known of rows that chunks_exact_mut has lent
     for k in 0..rows.len() / width {
-        if !correct_row(field, marked, &tables, rows, k * width) {
+        let Some(()) = corrector.correct(&mut rows[k * width..k * width + width]) else {
             return Err(CorrectFault::Lost(k));
-        }
+        };
     }
     Ok(())
 }

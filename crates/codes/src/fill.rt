@@ -3,11 +3,12 @@ ghost use Rattle.std.specs.Prelude.{◌≡◌, ℕ, ◌+◌, ◌-◌, ◌*◌, �
 ghost use Rattle.basics.specs.Checks.{verdict};
 ghost use Rattle.basics.specs.Lists.{Updated};
 ghost use Rattle.fields.specs.Rings.{Inverses, Points, entry};
+ghost use Rattle.algebra.specs.Rows.{Filled};
 ghost use Rattle.algebra.specs.Polynomials.{product};
-ghost use Rattle.codes.specs.Fill.{fill_fault, Fits, FitsRow, FilledAt, Tabled, power_of, filler_of, FilledRows, nested};
+ghost use Rattle.codes.specs.Fill.{fill_fault, Fits, FitsRow, Tabled, power_of, filler_of, FilledRows, nested};
 
-use crate::poly::{one, times_factor};
-use crate::rows::{cleared, place, power_table, rises, rules, store};
+use crate::rows::{cleared, place, power_table, rises, rules};
+use algebra::poly::{Coefficients, one, times_factor};
 use fields::{Field, LANES, Lanes, Ring};
 
 // Why rows are not filled.
@@ -21,12 +22,20 @@ pub enum FillFault {
     Length,
 }
 
-// What filling needs of every row: the powers 1 to r of each column's point, and for each syndrome what it adds to each
-// filled column.
+// Fills the given columns of rows, with what it needs of every row: the powers 1 and up of each column's point, and for each
+// syndrome what it adds to each filled column.
 #[derive(Drop)]
-struct Tables {
+struct Filler<'a, F: Field> {
+    field: &'a F,
+    columns: &'a [u16],
+    width: usize,
     powers: [Lanes; 256],
     fillers: [Lanes; 64],
+    ghost fits: { FitsRow (F.Ring.ops field.now).order width columns.now },
+    ghost inverses: { Inverses (F.Ring.ops field.now) (F.Field.inv field.now) },
+    ghost points: { Points (F.Ring.ops field.now) (F.Field.points field.now) },
+    ghost powers_are: { Tabled width (length columns.now) (power_of (F.Ring.ops field.now) (F.Field.points field.now)) powers },
+    ghost fillers_are: { Tabled (length columns.now) (length columns.now) (filler_of (F.Ring.ops field.now) (F.Field.inv field.now) (F.Field.points field.now) columns.now) fillers },
 }
 
 // What stands against filling.
@@ -52,20 +61,20 @@ fn points_of<F: Field>(field: &F, columns: &[u16]) -> Lanes
     ensures { Updated (length columns.now) (λ k. F.Field.points field.now (slice_index columns.now k)) (replicate 64 0) result }
 {
     let mut points = [0; LANES];
-    for k in 0..columns.len() {
-        points[k] = field.point(columns[k]);
+    for (k, column) in columns.iter().enumerate() {
+        points[k] = field.point(*column);
     }
     points
 }
 
-// The product of 1 − a z over the first `count` points a.
-fn locator<R: Ring>(ring: &R, points: &Lanes, count: usize) -> [u16; 65]
-    requires { count ≤ 64 }
-    ensures { (j : ℕ) → j < 65 → slice_index result j ≡ product (R.Ring.ops ring.now) count (λ _. true) (λ k. slice_index points.now k) j }
+// The product of 1 − a z over the points a.
+fn locator<R: Ring>(ring: &R, points: &[u16]) -> Coefficients
+    requires { length points.now ≤ 64 }
+    ensures { (j : ℕ) → j < 65 → slice_index result j ≡ product (R.Ring.ops ring.now) (length points.now) (λ _. true) (λ k. slice_index points.now k) j }
 {
     let mut locator = one();
-    for k in 0..count {
-        locator = times_factor(ring, points[k], &locator);
+    for point in points {
+        locator = times_factor(ring, *point, &locator);
     }
     locator
 }
@@ -82,22 +91,22 @@ fn horner_step<R: Ring>(
     ensures { Updated count (λ k. (R.Ring.ops ring.now).add ((R.Ring.ops ring.now).mul (slice_index points.now k) (slice_index sums.now k)) (slice_index terms.now k)) (replicate 64 0) result }
 {
     let mut next = [0; LANES];
-    for k in 0..count {
-        next[k] = ring.add(ring.mul(points[k], sums[k]), terms[k]);
+    for (k, sum) in next[..count].iter_mut().enumerate() {
+        *sum = ring.add(ring.mul(points[k], sums[k]), terms[k]);
     }
     next
 }
 
 // The coefficients of the locator without the factor of each point, by rising degree; a lane for each point.
-fn quotients<R: Ring>(ring: &R, points: &Lanes, locator: &[u16; 65], count: usize) -> [Lanes; 64]
+fn quotients<R: Ring>(ring: &R, points: &Lanes, locator: &Coefficients, count: usize) -> [Lanes; 64]
     requires { count ≤ 64 }
     ensures { Tabled count count (λ j k. nested (R.Ring.ops ring.now) (slice_index points.now k) (λ i. slice_index locator.now i) (j + 1)) result }
 {
     let mut table = [[0; LANES]; 64];
     let mut last = [0; LANES];
-    for j in 0..count {
+    for (j, quotient) in table[..count].iter_mut().enumerate() {
         last = horner_step(ring, points, &last, &[locator[j]; LANES], count);
-        table[j] = last;
+        *quotient = last;
     }
     table
 }
@@ -108,8 +117,8 @@ fn values<R: Ring>(ring: &R, points: &Lanes, table: &[Lanes; 64], count: usize) 
     ensures { (k : ℕ) → k < count → slice_index result k ≡ nested (R.Ring.ops ring.now) (slice_index points.now k) (λ j. entry table.now j k) count }
 {
     let mut sums = [0; LANES];
-    for j in 0..count {
-        sums = horner_step(ring, points, &sums, &table[j], count);
+    for terms in &table[..count] {
+        sums = horner_step(ring, points, &sums, terms, count);
     }
     sums
 }
@@ -120,8 +129,8 @@ fn weights<F: Field>(field: &F, points: &Lanes, values: &Lanes, count: usize) ->
     ensures { Updated count (λ k. (F.Ring.ops field.now).neg (F.Field.inv field.now ((F.Ring.ops field.now).mul (slice_index points.now k) (slice_index values.now k)))) (replicate 64 0) result }
 {
     let mut weights = [0; LANES];
-    for k in 0..count {
-        weights[k] = field.neg(field.inverse(field.mul(points[k], values[k])));
+    for (k, weight) in weights[..count].iter_mut().enumerate() {
+        *weight = field.neg(field.inverse(field.mul(points[k], values[k])));
     }
     weights
 }
@@ -132,8 +141,8 @@ fn lane_products<R: Ring>(ring: &R, xs: &Lanes, ys: &Lanes, count: usize) -> Lan
     ensures { Updated count (λ k. (R.Ring.ops ring.now).mul (slice_index xs.now k) (slice_index ys.now k)) (replicate 64 0) result }
 {
     let mut products = [0; LANES];
-    for k in 0..count {
-        products[k] = ring.mul(xs[k], ys[k]);
+    for (k, product) in products[..count].iter_mut().enumerate() {
+        *product = ring.mul(xs[k], ys[k]);
     }
     products
 }
@@ -149,8 +158,8 @@ fn weighted<R: Ring>(
     ensures { Tabled count count (λ s k. (R.Ring.ops ring.now).mul (slice_index weights.now k) (entry quotients.now (count - 1 - s) k)) result }
 {
     let mut table = [[0; LANES]; 64];
-    for s in 0..count {
-        table[s] = lane_products(ring, weights, &quotients[count - 1 - s], count);
+    for (s, fillers) in table[..count].iter_mut().enumerate() {
+        *fillers = lane_products(ring, weights, &quotients[count - 1 - s], count);
     }
     table
 }
@@ -162,36 +171,28 @@ fn fill_table<F: Field>(field: &F, columns: &[u16]) -> [Lanes; 64]
 {
     let count = columns.len();
     let points = points_of(field, columns);
-    let locator = locator(field, &points, count);
+    let locator = locator(field, &points[..count]);
     let quotients = quotients(field, &points, &locator, count);
     let values = values(field, &points, &quotients, count);
     let weights = weights(field, &points, &values, count);
     weighted(field, &weights, &quotients, count)
 }
 
-// Fills the row from `start` on.
-fn fill_row<F: Field>(
-    field: &F,
-    width: usize,
-    columns: &[u16],
-    tables: &Tables,
-    rows: &mut [u16],
-    start: usize,
-)
-    requires inside { start + width ≤ length rows.old }
-    requires fits { FitsRow (F.Ring.ops field.now).order width columns.now }
-    requires powers { Tabled width (length columns.now) (power_of (F.Ring.ops field.now) (F.Field.points field.now)) tables.now.powers }
-    requires inverses { Inverses (F.Ring.ops field.now) (F.Field.inv field.now) }
-    requires points { Points (F.Ring.ops field.now) (F.Field.points field.now) }
-    requires fillers { Tabled (length columns.now) (length columns.now) (filler_of (F.Ring.ops field.now) (F.Field.inv field.now) (F.Field.points field.now) columns.now) tables.now.fillers }
-    ensures { FilledAt (record { ring = F.Ring.ops field.now; point = F.Field.points field.now }) width columns.now start rows.old rows.new }
-{
-    let checks = columns.len();
-    let mut row = cleared(field, columns, rows, start, width);
-    let syndromes = field.combine(&row[0..width], &tables.powers, checks);
-    let values = field.combine(&syndromes[0..checks], &tables.fillers, checks);
-    place(&mut row, columns, &values);
-    store(rows, start, &row, width);
+impl<'a, F: Field> Filler<'a, F> {
+    // Fills the columns of one row.
+    fn fill(&self, symbols: &mut [u16])
+        requires { length symbols.old ≡ self.now.width }
+        ensures { Filled (record { ring = F.Ring.ops self.now.field.now; point = F.Field.points self.now.field.now }) self.now.columns.now symbols.old symbols.new }
+    {
+        let checks = self.columns.len();
+        let mut row = cleared(self.field, self.columns, symbols);
+        let syndromes = self.field.combine(&row[..self.width], &self.powers, checks);
+        let values = self
+            .field
+            .combine(&syndromes[..checks], &self.fillers, checks);
+        place(&mut row, self.columns, &values);
+        symbols.copy_from_slice(&row[..self.width]);
+    }
 }
 
 // Fills the given columns of every row of `width` symbols: each row becomes the one code row, with as many checks as there
@@ -207,12 +208,16 @@ pub fn fill_rows<F: Field>(
 {
     check(field.order(), width, columns, rows.len())?;
     rules(field);
-    let tables = Tables {
+    let filler = Filler {
+        field,
+        columns,
+        width,
         powers: power_table(field, width, columns.len()),
         fillers: fill_table(field, columns),
     };
+    // by their places, since nothing is known of rows that chunks_exact_mut has lent
     for k in 0..rows.len() / width {
-        fill_row(field, width, columns, &tables, rows, k * width);
+        filler.fill(&mut rows[k * width..k * width + width]);
     }
     Ok(())
 }

@@ -1,7 +1,8 @@
-// Polynomials over any ring, and code rows over any field.
+// Code rows over any field: filling them, and correcting them. Polynomials over any ring are those of crate algebra.
 #![tactic(auto)]
+
+pub use algebra::poly;
 
 pub mod correct;
 pub mod fill;
-pub mod poly;
 mod rows;

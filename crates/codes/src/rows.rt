@@ -3,66 +3,45 @@ ghost use Rattle.std.specs.Prelude.{◌≡◌, ◌+◌, ◌<◌, ◌≤◌, true
 ghost use Rattle.basics.specs.Lists.{Updated};
 ghost use Rattle.fields.specs.Rings.{Inverses, Points, taken, power};
 ghost use Rattle.algebra.specs.Rows.{rising};
-ghost use Rattle.codes.specs.Fill.{Tabled, power_of, Placed, Copied, Stored};
+ghost use Rattle.codes.specs.Fill.{Tabled, power_of, Placed, Copied};
 
-use fields::{Field, LANES, Lanes, Ring};
+use fields::{Field, LANES, Lanes, Ring, reduced};
 
-// a, or 0 where it is the order or above.
-fn reduced(order: u16, a: u16) -> u16
-    ensures { result ≡ taken order a }
-{
-    if a < order { a } else { 0 }
-}
+// A workplace for the symbols of a row, 0 from its width on.
+pub(crate) type Row = [u16; 256];
 
-// The row of `width` symbols from `start` on.
-pub(crate) fn load(rows: &[u16], start: usize, width: usize, order: u16) -> [u16; 256]
-    requires { (start + width ≤ length rows.now) × (width ≤ 256) }
-    ensures { Updated width (λ i. taken order (slice_index rows.now (start + i))) (replicate 256 0) result }
+// A copy of the symbols of a row.
+pub(crate) fn load(order: u16, symbols: &[u16]) -> Row
+    requires { length symbols.now ≤ 256 }
+    ensures { Updated (length symbols.now) (λ i. taken order (slice_index symbols.now i)) (replicate 256 0) result }
 {
     let mut row = [0; 256];
-    for i in 0..width {
-        row[i] = reduced(order, rows[start + i]);
+    for (i, symbol) in symbols.iter().enumerate() {
+        row[i] = reduced(order, *symbol);
     }
     row
 }
 
 // Sets the given columns of a row to the given values.
-pub(crate) fn place(row: &mut [u16; 256], columns: &[u16], values: &Lanes)
+pub(crate) fn place(row: &mut Row, columns: &[u16], values: &Lanes)
     requires { (rising 0 256 columns.now ≡ true) × (length columns.now ≤ 64) }
     ensures { Placed (length columns.now) columns.now values.now row.old row.new }
 {
-    for k in 0..columns.len() {
-        row[columns[k] as usize] = values[k];
+    for (k, column) in columns.iter().enumerate() {
+        row[*column as usize] = values[k];
     }
 }
 
-// A copy of the row from `start` on, with 0 in the given columns.
-pub(crate) fn cleared<R: Ring>(
-    ring: &R,
-    columns: &[u16],
-    rows: &[u16],
-    start: usize,
-    width: usize,
-) -> [u16; 256]
-    requires inside { start + width ≤ length rows.now }
-    requires few { width ≤ 256 }
+// A copy of the symbols of a row, with 0 in the given columns.
+pub(crate) fn cleared<R: Ring>(ring: &R, columns: &[u16], symbols: &[u16]) -> Row
+    requires few { length symbols.now ≤ 256 }
     requires checks { length columns.now ≤ 64 }
-    requires columns { rising 0 width columns.now ≡ true }
-    ensures { Copied (R.Ring.ops ring.now).order width columns.now start rows.now result }
+    requires columns { rising 0 (length symbols.now) columns.now ≡ true }
+    ensures { Copied (R.Ring.ops ring.now).order columns.now symbols.now result }
 {
-    let mut row = load(rows, start, width, ring.order());
+    let mut row = load(ring.order(), symbols);
     place(&mut row, columns, &[0; LANES]);
     row
-}
-
-// Writes the row back.
-pub(crate) fn store(rows: &mut [u16], start: usize, row: &[u16; 256], width: usize)
-    requires { (start + width ≤ length rows.old) × (width ≤ 256) }
-    ensures { Stored start width row.now rows.old rows.new }
-{
-    for i in 0..width {
-        rows[start + i] = row[i];
-    }
 }
 
 // Whether the columns rise, each below the width.
@@ -87,9 +66,9 @@ fn powers_of<R: Ring>(ring: &R, a: u16, count: usize) -> Lanes
 {
     let mut powers = [0; LANES];
     let mut last = 1;
-    for j in 0..count {
+    for (j, power) in powers[..count].iter_mut().enumerate() {
         last = ring.mul(a, last);
-        powers[j] = last;
+        *power = last;
     }
     powers
 }
@@ -100,8 +79,8 @@ pub(crate) fn power_table<F: Field>(field: &F, width: usize, count: usize) -> [L
     ensures { Tabled width count (power_of (F.Ring.ops field.now) (F.Field.points field.now)) result }
 {
     let mut table = [[0; LANES]; 256];
-    for i in 0..width {
-        table[i] = powers_of(field, field.point(i as u16), count);
+    for (i, powers) in table[..width].iter_mut().enumerate() {
+        *powers = powers_of(field, field.point(i as u16), count);
     }
     table
 }

@@ -1,22 +1,22 @@
-use Rattle.std.proofs.Common.{◌≡◌, ℕ, Bool, false, List, get_or, ap, ◌∙◌, arith}
+use Rattle.std.proofs.Common.{◌≡◌, ℕ, Bool, false, List, length, get_or, ap, ◌∙◌, arith}
 use Rattle.algebra.specs.Polynomials.{product}
 use Rattle.codes.proofs.Nested.{product_none, product_more, product_kept}
 use Rattle.codes.proofs.correct.locator.Goals as goal
-use Rattle.codes.proofs.correct.locator.Goals.{then-columns-k, else-columns-k}
+use Rattle.codes.proofs.correct.locator.Goals.{then-flagged, else-flagged}
 
 pub loop-k-init : goal.loop-k-init
-loop-k-init g c = product_none _ _ _ _ c.one-locator.ensures.constant c.one-locator.ensures.rest
+loop-k-init g c = product_none _ _ _ _ c.one-locator.ensures
 
 pub loop-k-preserved : goal.loop-k-preserved
 loop-k-preserved g c =
     let o = g.F.Ring.ops c.args.field.now in let t : ℕ → Bool = λ k. get_or c.args.columns.now k false in let p = g.F.Field.points c.args.field.now in let k = c.loop-k.k in
-    elim c.if-columns-k.branch [
-      | then-columns-k w ↦ λ j h. ap (λ (cs : List ℕ). get_or cs j 0) w.locator-is
-          ∙ product_more o t p k _ c.loop-k.locator _ w.if-columns-k.true w.point.ensures.value c.loop-k.invariant w.times_factor-locator.ensures j h
-      | else-columns-k w ↦ λ j h. ap (λ (cs : List ℕ). get_or cs j 0) w.locator-is ∙ product_kept o t p k c.loop-k.locator w.if-columns-k.false c.loop-k.invariant j h
+    elim c.if-flagged.branch [
+      | then-flagged w ↦ λ j h. ap (λ (cs : List ℕ). get_or cs j 0) w.locator-is
+          ∙ product_more o t p k _ c.loop-k.locator _ w.if-flagged.true w.point.ensures.value c.loop-k.invariant w.times_factor-locator.ensures j h
+      | else-flagged w ↦ λ j h. ap (λ (cs : List ℕ). get_or cs j 0) w.locator-is ∙ product_kept o t p k c.loop-k.locator w.if-flagged.false c.loop-k.invariant j h
     ]
 
 pub returns : goal.returns
 returns g c =
-    let e : c.loop-k.k ≡ c.args.width = omega arith in let f = c.args.field.now in
+    let e : c.loop-k.k ≡ length c.args.columns.now = omega arith in let f = c.args.field.now in
     λ j h. c.loop-k.invariant j h ∙ ap (λ (n : ℕ). product (g.F.Ring.ops f) n (λ k. get_or c.args.columns.now k false) (g.F.Field.points f) j) e

@@ -3,5 +3,5 @@ use Rattle.fields.specs.Rings.{entry}
 use Rattle.codes.specs.Fill.{nested}
 use Rattle.codes.proofs.fill.values.Given as goal
 
-abbrev pub invariant-loop-j : goal.invariant-loop-j
-invariant-loop-j g l = (k : ℕ) → k < l.count → get_or l.sums k 0 ≡ nested (g.R.Ring.ops l.ring) (get_or l.points k 0) (λ j. entry l.table j k) l.j
+abbrev pub invariant-loop-terms : goal.invariant-loop-terms
+invariant-loop-terms g l = (k : ℕ) → k < l.count → get_or l.sums k 0 ≡ nested (g.R.Ring.ops l.ring) (get_or l.points k 0) (λ j. entry l.table j k) l.terms-index

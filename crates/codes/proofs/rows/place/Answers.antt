@@ -7,8 +7,8 @@ use Rattle.codes.proofs.rows.place.Goals as goal
 pub loop-k-init : goal.loop-k-init
 loop-k-init c = placed_none _ _ _
 
-pub bounds-row-columns : goal.bounds-row-columns
-bounds-row-columns c = rising_below 0 256 c.args.columns.now c.requires.0 c.loop-k.k c.loop-k-test.true
+pub bounds-row-column : goal.bounds-row-column
+bounds-row-column c = rising_below 0 256 c.args.columns.now c.requires.0 c.loop-k.k c.loop-k-test.true
 
 pub loop-k-preserved : goal.loop-k-preserved
 loop-k-preserved c =

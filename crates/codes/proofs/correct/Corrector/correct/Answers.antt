@@ -1,0 +1,20 @@
+use Rattle.std.proofs.Common.{sym, refl, subst, arith}
+use Rattle.algebra.specs.Rows.{Corrected, taken_row}
+use Rattle.codes.proofs.Restoring.{copied_in, none_close, restored}
+use Rattle.codes.proofs.correct.Corrector.correct.Goals as goal
+
+pub decode-requires : goal.decode-requires
+decode-requires g c =
+    let low = (g.met.F.Ring.ring c.args.self.now.field.now).low in let wide = c.requires in
+    λ k h. copied_in _ _ _ _ (omega arith) c.cleared-row.ensures k (omega arith)
+
+pub returns-in_default : goal.returns-in_default
+returns-in_default g c =
+    let me = c.args.self.now in
+    record { same = refl; none = none_close _ _ me.tables.checks _ _ _ me.ready.fits.few c.requires c.cleared-row.ensures c.in_default.ensures }
+
+pub returns : goal.returns
+returns g c =
+    let me = c.args.self.now in let f = me.field.now in let ready = me.ready in
+    subst (Corrected (record { ring = g.F.Ring.ops f; point = g.F.Field.points f }) me.tables.checks me.marked.now (taken_row (g.F.Ring.ops f).order c.args.symbols.now)) (sym c.copy_from_slice.ensures.after)
+    (restored _ _ _ _ _ _ ready.fits.few c.requires c.cleared-row.ensures _ (g.met.F.Ring.ring f) ready.inverses ready.points ready.fits.points _ c.in-Some.ensures)
