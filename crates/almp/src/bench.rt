@@ -1,7 +1,7 @@
 // What a script works on: a page, once one is ordered, and the caller's cells. Every command is carried out here.
 use fields::{KindField, Ring};
 use pages::page::{Page, order_kind};
-use plans::fault::{Refusal, Refuses};
+use plans::fault::Refusal;
 use plans::numbers::Numbers;
 use scripts::command::{Command, LineFault, parse};
 use std::alloc::Global;
@@ -54,12 +54,7 @@ impl fmt::Display for Answer {
                 f.write_str(" /")?;
                 show_all(heights.as_slice(), f)
             }
-            Answer::Refused(refusal) => {
-                let number = refusal.number;
-                let first = refusal.first;
-                let second = refusal.second;
-                write!(f, "refused {number} {first} {second}")
-            }
+            Answer::Refused(refusal) => write!(f, "refused {refusal}"),
             Answer::Wrong(fault) => write!(f, "error: {fault}"),
         }
     }
@@ -136,14 +131,13 @@ impl Bench {
     fn order(&mut self, heap: Global, kind: u16, numbers: Numbers) -> Result<Answer, LineFault> {
         match order_kind(kind, numbers) {
             Ok(page) => {
-                let count = numbers.rows as usize * numbers.columns as usize;
-                let cells = vec![in heap; 0; count]?;
+                let cells = vec![in heap; 0; numbers.cell_count()]?;
                 self.held = Some(page);
                 self.numbers = numbers;
                 self.cells = cells;
                 Ok(Answer::Done)
             }
-            Err(fault) => Ok(Answer::Refused(fault.refusal())),
+            Err(fault) => Ok(Answer::Refused(fault.into())),
         }
     }
 
@@ -168,17 +162,13 @@ impl Bench {
         };
         match page.write(self.cells.as_mut_slice(), symbols, heights) {
             Ok(()) => Ok(Answer::Done),
-            Err(fault) => Ok(Answer::Refused(fault.refusal())),
+            Err(fault) => Ok(Answer::Refused(fault.into())),
         }
     }
 
     // Reads into buffers of the lengths that the page asks.
     fn read(&self, heap: Global) -> Result<Answer, LineFault> {
-        let rows = self.numbers.rows as usize;
-        let columns = self.numbers.columns as usize;
-        // an order that was accepted has fewer checks than columns
-        let messages = columns.saturating_sub(self.numbers.checks as usize);
-        self.read_into(heap, rows * messages, rows * columns)
+        self.read_into(heap, self.numbers.symbol_count(), self.numbers.cell_count())
     }
 
     // Reads into buffers of these lengths, of zeros.
@@ -204,7 +194,7 @@ impl Bench {
                 symbols,
                 heights,
             }),
-            Err(fault) => Ok(Answer::Refused(fault.refusal())),
+            Err(fault) => Ok(Answer::Refused(fault.into())),
         }
     }
 }
