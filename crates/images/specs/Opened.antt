@@ -2,6 +2,7 @@
 use Rattle.std.specs.Prelude.{◌≡◌, ℕ, not, Option, ◌==◌, nat_le}
 use Rattle.basics.specs.Checks.{check, ◌or_else◌}
 use Rattle.fields.specs.declared.kind.KindField.{KindField}
+use Rattle.fields.specs.Numbered.{number_of}
 use Rattle.rules.specs.Pages.{Setup}
 use Rattle.rules.specs.Calls.{numbers_fault}
 use Rattle.rules.specs.Views.{marking}
@@ -14,7 +15,7 @@ use Rattle.images.specs.Opening.{numbers_in, marking_in}
 
 -- the page is the one that the bytes show
 pub record Shows (at : ℕ → ℕ) (page : Page KindField) : Type 0 where
-  pub kind : page.field.kind ≡ at 5
+  pub kind : number_of page.field ≡ at 5
   pub numbers : page.plan.numbers ≡ numbers_in at
   pub marked : marking page.plan ≡ marking_in at
 

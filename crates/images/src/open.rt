@@ -1,6 +1,7 @@
 // Opening: a raw image is looked at, and only an opened one gives its page and its rows.
 ghost use Rattle.std.specs.Prelude.{◌≡◌, ℕ, ◌+◌, ◌*◌, ◌/◌, ◌%◌, ◌<◌, ◌≤◌, not, ◌||◌, length, IfOk, OnOk, ◌==◌, slice_index};
 ghost use Rattle.basics.specs.Checks.{check, ◌or_else◌, lowest, told, verdict, fault_of};
+ghost use Rattle.fields.specs.Numbered.{number_of};
 ghost use Rattle.plans.specs.Orders.{outside};
 ghost use Rattle.plans.specs.Marks.{marking_fault};
 ghost use Rattle.rules.specs.Pages.{tabled};
@@ -279,7 +280,7 @@ impl Opened {
 
     // Fills n cells with the readings of a row.
     pub fn row(&self, row: u16, cells: &mut [u16]) -> Result<(), PageFault>
-        ensures fault { result ≡ verdict (row_fault (of_kind self.now.page.field.kind self.now.page.plan.numbers) (length cells.old) row) }
+        ensures fault { result ≡ verdict (row_fault (of_kind (number_of self.now.page.field) self.now.page.plan.numbers) (length cells.old) row) }
         ensures cells { OrKept result cells.old cells.new (cells.new ≡ tabled self.now.page.plan.numbers.columns (λ i. reading_at (bytes_at self.now.bytes) (row * self.now.page.plan.numbers.columns + i))) }
     {
         self.page.check()?;
@@ -296,7 +297,7 @@ impl Opened {
 
     // Fills as many cells as the page has with all readings.
     pub fn cells(&self, cells: &mut [u16]) -> Result<(), PageFault>
-        ensures fault { result ≡ verdict (cells_fault (of_kind self.now.page.field.kind self.now.page.plan.numbers) (length cells.old)) }
+        ensures fault { result ≡ verdict (cells_fault (of_kind (number_of self.now.page.field) self.now.page.plan.numbers) (length cells.old)) }
         ensures cells { OrKept result cells.old cells.new (cells.new ≡ tabled (cell_count self.now.page.plan.numbers) (reading_at (bytes_at self.now.bytes))) }
     {
         self.page.check()?;

@@ -1,6 +1,7 @@
 // Saving: an image is begun, its level blocks are put in order, and it is closed or abandoned.
 ghost use Rattle.std.specs.Prelude.{◌≡◌, ℕ, ◌+◌, ◌*◌, ◌<◌, ◌≤◌, true, false, length, IfOk, OnOk};
 ghost use Rattle.basics.specs.Checks.{verdict, fault_of};
+ghost use Rattle.fields.specs.Numbered.{number_of};
 ghost use Rattle.rules.specs.Views.{marking, of_kind};
 ghost use Rattle.images.specs.Format.{head_at, sealed_at, blocks_of_levels, cell_count, image_of};
 ghost use Rattle.images.specs.Saving.{BlockSet, OrKept, count_after, LevelsSet, begin_fault, image_fault, put_fault, close_fault, closed, abandoned, save_fault, stored};
@@ -56,9 +57,9 @@ fn put_levels(b: usize, cells: &[u16], image: &mut [u8])
 
 // Begins the image of a page: sets block 0 of the buffer, and no other byte.
 pub fn begin(page: &Page<KindField>, image: &mut [u8]) -> Result<Begun, SaveFault>
-    ensures fault { fault_of result ≡ begin_fault (of_kind page.now.field.kind page.now.plan.numbers) (length image.old) }
+    ensures fault { fault_of result ≡ begin_fault (of_kind (number_of page.now.field) page.now.plan.numbers) (length image.old) }
     ensures begun { IfOk result (λ begun. (begun.cells ≡ cell_count page.now.plan.numbers) × (begun.put ≡ 0) × (begun.spent ≡ false)) }
-    ensures image { OrKept result image.old image.new (BlockSet 0 (sealed_at 0 (head_at page.now.field.kind page.now.plan.numbers (marking page.now.plan))) image.old image.new) }
+    ensures image { OrKept result image.old image.new (BlockSet 0 (sealed_at 0 (head_at (number_of page.now.field) page.now.plan.numbers (marking page.now.plan))) image.old image.new) }
 {
     page.check()?;
     let numbers = page.numbers();
@@ -152,8 +153,8 @@ impl Begun {
 
 // The image of a page and its cells: begun, put block by block, and closed.
 pub fn save(page: &Page<KindField>, cells: &[u16], image: &mut [u8]) -> Result<(), SaveFault>
-    ensures fault { result ≡ verdict (save_fault (of_kind page.now.field.kind page.now.plan.numbers) (length cells.now) (length image.old)) }
-    ensures image { OrKept result image.old image.new (image.new ≡ image_of (stored page.now.field.kind page.now.plan cells.now)) }
+    ensures fault { result ≡ verdict (save_fault (of_kind (number_of page.now.field) page.now.plan.numbers) (length cells.now) (length image.old)) }
+    ensures image { OrKept result image.old image.new (image.new ≡ image_of (stored (number_of page.now.field) page.now.plan cells.now)) }
 {
     page.check()?;
     let numbers = page.numbers();

@@ -6,7 +6,7 @@ ghost use Rattle.fields.specs.Rings.{taken};
 ghost use Rattle.nine.specs.Nines.{nine, inverse_of, point_of};
 ghost use Rattle.nine.specs.Laws.{laws};
 
-use fields::{Field, Ring};
+use fields::{Field, Ring, reduced};
 
 #[derive(Clone, Copy)]
 pub struct Nine;
@@ -14,14 +14,6 @@ pub struct Nine;
 const INVERSES: [u16; 9] = [0, 1, 2, 6, 5, 4, 3, 8, 7];
 
 const POINTS: [u16; 8] = [1, 4, 6, 7, 2, 8, 3, 5];
-
-// a, or 0 where it is no element
-fn reduced(a: u16) -> u16
-    ensures value { result ≡ taken 9 a }
-    ensures inside { result < 9 }
-{
-    if a < 9 { a } else { 0 }
-}
 
 impl Ring for Nine {
     ghost ops = { λ _. nine };
@@ -33,19 +25,19 @@ impl Ring for Nine {
     }
 
     fn neg(&self, a: u16) -> u16 {
-        let x = reduced(a);
+        let x = reduced(9, a);
         (3 - x % 3) % 3 + 3 * ((3 - x / 3) % 3)
     }
 
     fn add(&self, a: u16, b: u16) -> u16 {
-        let x = reduced(a);
-        let y = reduced(b);
+        let x = reduced(9, a);
+        let y = reduced(9, b);
         (x % 3 + y % 3) % 3 + 3 * ((x / 3 + y / 3) % 3)
     }
 
     fn mul(&self, a: u16, b: u16) -> u16 {
-        let x = reduced(a);
-        let y = reduced(b);
+        let x = reduced(9, a);
+        let y = reduced(9, b);
         (x % 3 * (y % 3) + 2 * (x / 3 * (y / 3))) % 3
             + 3 * ((x % 3 * (y / 3) + x / 3 * (y % 3)) % 3)
     }
@@ -57,15 +49,11 @@ impl Field for Nine {
     ghost points = { λ _. point_of };
 
     fn inverse(&self, a: u16) -> u16 {
-        if a < 9 { INVERSES[a as usize] } else { 0 }
+        INVERSES.get(a as usize).copied().unwrap_or(0)
     }
 
     fn point(&self, column: u16) -> u16 {
-        if column < 8 {
-            POINTS[column as usize]
-        } else {
-            0
-        }
+        POINTS.get(column as usize).copied().unwrap_or(0)
     }
 }
 

@@ -3,6 +3,7 @@ ghost use Rattle.std.specs.Prelude.{◌≡◌, ℕ, ◌+◌, ◌-◌, ◌*◌, �
 ghost use Rattle.std.specs.List.{range_with_len};
 ghost use Rattle.basics.specs.Checks.{verdict, fault_of, ◌or_else◌, lowest};
 ghost use Rattle.basics.specs.Lists.{Updated};
+ghost use Rattle.fields.specs.Numbered.{number_of};
 ghost use Rattle.codes.specs.Fill.{FilledRows};
 ghost use Rattle.plans.specs.Orders.{order_fault, Ranges, told_order};
 ghost use Rattle.plans.specs.Marks.{marking_fault};
@@ -247,9 +248,9 @@ impl<F: Field + Drop> Page<F> {
 pub fn order_kind(kind: u16, numbers: Numbers) -> Result<Page<KindField>, OrderFault>
     ensures fault { fault_of result ≡ kind_fault kind numbers }
     ensures refusal { told_order (fault_of result) ≡ told_order (kind_fault kind numbers) }
-    ensures page { IfOk result (λ page. (page.field.kind ≡ kind) × (page.plan.numbers ≡ numbers) × (marking page.plan ≡ [])) }
+    ensures page { IfOk result (λ page. (number_of page.field ≡ kind) × (page.plan.numbers ≡ numbers) × (marking page.plan ≡ [])) }
 {
-    let field = KindField::of(kind)?;
+    let field = KindField::try_from(kind)?;
     Page::order(field, numbers)
 }
 

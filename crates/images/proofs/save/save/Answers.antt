@@ -1,5 +1,6 @@
 use Rattle.std.proofs.Common.{◌≡◌, ℕ, ◌+◌, ◌*◌, length, Ok, sym, ap, ◌∙◌, subst, arith}
 use Rattle.basics.specs.Checks.{verdict}
+use Rattle.fields.specs.Numbered.{number_of}
 use Rattle.plans.specs.declared.numbers.Numbers.{Numbers}
 use Rattle.rules.specs.Views.{of_kind}
 use Rattle.images.specs.Format.{blocks_of_levels, cell_count, image_of}
@@ -11,18 +12,18 @@ use Rattle.images.proofs.save.save.Goals as goal
 pub loop-block-init : goal.loop-block-init
 loop-block-init c =
     let page = c.args.page.now in let b = c.in_ok-begun.ensures in
-    let p = of_kind page.field.kind page.plan.numbers in
+    let p = of_kind (number_of page.field) page.plan.numbers in
     let count : length c.args.cells.now ≡ cell_count page.plan.numbers = subst (λ (n : Numbers). length c.args.cells.now ≡ n.rows * n.columns) c.numbers-numbers.ensures (omega arith) in (
       b.begun.1,
       b.begun.0 ∙ sym count,
       b.begun.2,
       omega (arith, begun_size p (length c.args.image.now) b.fault, ap blocks_of_levels count),
-      begins_head (stored page.field.kind page.plan c.args.cells.now) c.args.image.now c.begin.new.image b.image,
+      begins_head (stored (number_of page.field) page.plan c.args.cells.now) c.args.image.now c.begin.new.image b.image,
     )
 
 pub loop-block-preserved : goal.loop-block-preserved
 loop-block-preserved c =
-    let l = c.loop-block in let page = c.args.page.now in let s = stored page.field.kind page.plan c.args.cells.now in
+    let l = c.loop-block in let page = c.args.page.now in let s = stored (number_of page.field) page.plan c.args.cells.now in
     let size : length l.image ≡ 512 * (1 + blocks_of_levels l.begun.cells) = l.invariant.3 ∙ ap (λ n. 512 * (1 + blocks_of_levels n)) (sym l.invariant.1) in
     let ok : c.put.result ≡ Ok tt = c.put.ensures.fault
     ∙ ap verdict (put_fine l.begun.cells l.begun.put (length c.args.cells.now) (length l.image) (sym l.invariant.1) size (omega (arith, l.invariant.0, l.invariant.1, ap blocks_of_levels l.invariant.1, c.loop-block-test.true, c.level_blocks-block-end.ensures))) in
@@ -36,8 +37,8 @@ loop-block-preserved c =
 
 pub returns : goal.returns
 returns c =
-    let l = c.loop-block in let page = c.args.page.now in let s = stored page.field.kind page.plan c.args.cells.now in
-    let p = of_kind page.field.kind page.plan.numbers in let b = c.in_ok-begun.ensures in
+    let l = c.loop-block in let page = c.args.page.now in let s = stored (number_of page.field) page.plan c.args.cells.now in
+    let p = of_kind (number_of page.field) page.plan.numbers in let b = c.in_ok-begun.ensures in
     let count : length c.args.cells.now ≡ cell_count page.plan.numbers = subst (λ (n : Numbers). length c.args.cells.now ≡ n.rows * n.columns) c.numbers-numbers.ensures (omega arith) in
     let size : length l.image ≡ 512 * (1 + blocks_of_levels l.begun.cells) = l.invariant.3 ∙ ap (λ n. 512 * (1 + blocks_of_levels n)) (sym l.invariant.1) in
     let all : l._block ≡ blocks_of_levels (length c.args.cells.now) = omega (arith, c.loop-block-test.false, l.auto._block-end, c.level_blocks-block-end.ensures) in

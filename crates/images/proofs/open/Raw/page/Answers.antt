@@ -1,6 +1,7 @@
 use Rattle.std.proofs.Common.{◌-◌, ◌≤◌, take, IfOk, Err, sym, ap, ◌∙◌, subst, ap₂, arith}
 use Rattle.std.proofs.lemmas.Result.{err_from_is_err_and}
 use Rattle.basics.specs.Checks.{◌or_else◌, told, fault_of}
+use Rattle.fields.specs.Numbered.{number_of}
 use Rattle.plans.specs.Marks.{marking_fault}
 use Rattle.rules.specs.Views.{kind_fault}
 use Rattle.images.specs.Opening.{bytes_at}
@@ -30,5 +31,5 @@ returns c =
     let en = ordered.page.1 ∙ c.numbers.ensures in
     record {
       fault = ap₂ (λ a b. told Header a or_else told Marking b) (ordered.fault ∙ ap (kind_fault (at 5)) c.numbers.ensures) (marked.fault ∙ ap₂ marking_fault en ms);
-      page = record { kind = ap (λ f. f.kind) marked.page.0 ∙ ordered.page.0; numbers = marked.page.1 ∙ en; marked = marked.page.2 ∙ ms };
+      page = record { kind = ap number_of marked.page.0 ∙ ordered.page.0; numbers = marked.page.1 ∙ en; marked = marked.page.2 ∙ ms };
     }
