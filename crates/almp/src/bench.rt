@@ -1,24 +1,28 @@
 // What a script works on: a page, once one is ordered, and the caller's cells. Every command is carried out here.
-use fields::{KindField, Ring};
+use fields::KindField;
 use pages::page::{Page, order_kind};
 use plans::fault::{Refusal, Refuses};
 use plans::numbers::Numbers;
 use scripts::command::{Command, LineFault, parse};
-use std::alloc::Global;
+use std::alloc::{AllocError, Global};
 use std::fmt;
 
+// Nothing before the first order that is accepted.
 #[derive(Drop)]
 pub struct Bench {
-    held: Option<Page<KindField>>,
-    // the numbers of the page held, and zeros before there is one
-    numbers: Numbers,
+    held: Option<Held>,
+}
+
+// A page, and the caller's cells.
+#[derive(Drop)]
+struct Held {
+    page: Page<KindField>,
     cells: Vec<u16>,
 }
 
-// What is printed for a line.
+// What is printed for a command that is carried out.
 #[derive(Drop)]
 pub enum Answer {
-    // the command was carried out
     Done,
     // the readings
     Cells(Vec<u16>),
@@ -29,10 +33,15 @@ pub enum Answer {
         symbols: Vec<u16>,
         heights: Vec<u16>,
     },
-    // the call was refused
+}
+
+// Why a command is not carried out.
+#[derive(Clone, Copy, PartialEq, Eq, Debug)]
+pub enum Failure {
+    // the page's call is refused
     Refused(Refusal),
     // the line cannot be carried out
-    Wrong(LineFault),
+    Line(LineFault),
 }
 
 impl fmt::Display for Answer {
@@ -54,13 +63,6 @@ impl fmt::Display for Answer {
                 f.write_str(" /")?;
                 show_all(heights.as_slice(), f)
             }
-            Answer::Refused(refusal) => {
-                let number = refusal.number;
-                let first = refusal.first;
-                let second = refusal.second;
-                write!(f, "refused {number} {first} {second}")
-            }
-            Answer::Wrong(fault) => write!(f, "error: {fault}"),
         }
     }
 }
@@ -73,35 +75,51 @@ fn show_all<W: fmt::Write>(numbers: &[u16], f: &mut fmt::Formatter<W>) -> fmt::R
     Ok(())
 }
 
-impl Bench {
-    // No page, and no cells.
-    pub(crate) fn new(heap: Global) -> Bench {
-        Bench {
-            held: None,
-            numbers: Numbers {
-                columns: 0,
-                checks: 0,
-                rows: 0,
-                heights: 0,
-                drift: 0,
-            },
-            cells: Vec::new(heap),
+impl fmt::Display for Failure {
+    fn fmt<W: fmt::Write>(&self, f: &mut fmt::Formatter<W>) -> fmt::Result {
+        match self {
+            Failure::Refused(
+                Refusal {
+                    number,
+                    first,
+                    second,
+                },
+            ) => write!(f, "refused {number} {first} {second}"),
+            Failure::Line(fault) => write!(f, "error: {fault}"),
         }
+    }
+}
+
+impl From<LineFault> for Failure {
+    fn from(fault: LineFault) -> Failure {
+        Failure::Line(fault)
+    }
+}
+
+impl From<AllocError> for Failure {
+    fn from(error: AllocError) -> Failure {
+        Failure::Line(error.into())
+    }
+}
+
+fn refused<F: Refuses + Drop>(fault: F) -> Failure {
+    Failure::Refused(fault.refusal())
+}
+
+impl Bench {
+    pub(crate) fn new() -> Bench {
+        Bench { held: None }
     }
 
     // The answer to a line, and none for one with no words.
-    pub(crate) fn answer(&mut self, heap: Global, line: &[u8]) -> Option<Answer> {
-        match parse(heap, line) {
-            Ok(None) => None,
-            Ok(Some(command)) => match self.carry_out(heap, command) {
-                Ok(answer) => Some(answer),
-                Err(fault) => Some(Answer::Wrong(fault)),
-            },
-            Err(fault) => Some(Answer::Wrong(fault)),
+    pub(crate) fn answer(&mut self, heap: Global, line: &[u8]) -> Result<Option<Answer>, Failure> {
+        match parse(heap, line)? {
+            Some(command) => Ok(Some(self.carry_out(heap, command)?)),
+            None => Ok(None),
         }
     }
 
-    fn carry_out(&mut self, heap: Global, command: Command) -> Result<Answer, LineFault> {
+    fn carry_out(&mut self, heap: Global, command: Command) -> Result<Answer, Failure> {
         match command {
             Command::Order {
                 kind,
@@ -120,64 +138,56 @@ impl Bench {
                 };
                 self.order(heap, kind, numbers)
             }
-            Command::Cells => self.show_cells(),
-            Command::SetCells(cells) => self.set_cells(cells),
-            Command::Write { symbols, heights } => {
-                self.write(symbols.as_slice(), heights.as_slice())
-            }
-            Command::Read => self.read(heap),
+            Command::Cells => self.held()?.show_cells(),
+            Command::SetCells(cells) => self.held()?.set_cells(cells),
+            Command::Write { symbols, heights } => self.held()?.write(&symbols, &heights),
+            Command::Read => self.held()?.read(heap),
             Command::ReadInto { symbols, heights } => {
-                self.read_into(heap, symbols as usize, heights as usize)
+                self.held()?
+                    .read_into(heap, usize::from(symbols), usize::from(heights))
             }
         }
+    }
+
+    // What is held, for a command that needs a page.
+    fn held(&mut self) -> Result<&mut Held, LineFault> {
+        self.held.as_mut().ok_or(LineFault::NoPage)
     }
 
     // A new page, with as many cells of 0; a refusal leaves the page and the cells that there were.
-    fn order(&mut self, heap: Global, kind: u16, numbers: Numbers) -> Result<Answer, LineFault> {
-        match order_kind(kind, numbers) {
-            Ok(page) => {
-                let count = numbers.rows as usize * numbers.columns as usize;
-                let cells = vec![in heap; 0; count]?;
-                self.held = Some(page);
-                self.numbers = numbers;
-                self.cells = cells;
-                Ok(Answer::Done)
-            }
-            Err(fault) => Ok(Answer::Refused(fault.refusal())),
-        }
+    fn order(&mut self, heap: Global, kind: u16, numbers: Numbers) -> Result<Answer, Failure> {
+        let page = order_kind(kind, numbers).map_err(refused)?;
+        let count = usize::from(numbers.rows) * usize::from(numbers.columns);
+        let cells = vec![in heap; 0; count]?;
+        self.held = Some(Held { page, cells });
+        Ok(Answer::Done)
     }
+}
 
-    fn show_cells(&self) -> Result<Answer, LineFault> {
-        if self.held.is_none() {
-            return Err(LineFault::NoPage);
-        }
+impl Held {
+    fn show_cells(&self) -> Result<Answer, Failure> {
         Ok(Answer::Cells(self.cells.clone()?))
     }
 
-    fn set_cells(&mut self, cells: Vec<u16>) -> Result<Answer, LineFault> {
-        if self.held.is_none() {
-            return Err(LineFault::NoPage);
-        }
+    fn set_cells(&mut self, cells: Vec<u16>) -> Result<Answer, Failure> {
         self.cells = cells;
         Ok(Answer::Done)
     }
 
-    fn write(&mut self, symbols: &[u16], heights: &[u16]) -> Result<Answer, LineFault> {
-        let Some(page) = &self.held else {
-            return Err(LineFault::NoPage);
-        };
-        match page.write(self.cells.as_mut_slice(), symbols, heights) {
-            Ok(()) => Ok(Answer::Done),
-            Err(fault) => Ok(Answer::Refused(fault.refusal())),
-        }
+    fn write(&mut self, symbols: &[u16], heights: &[u16]) -> Result<Answer, Failure> {
+        self.page
+            .write(&mut self.cells, symbols, heights)
+            .map_err(refused)?;
+        Ok(Answer::Done)
     }
 
     // Reads into buffers of the lengths that the page asks.
-    fn read(&self, heap: Global) -> Result<Answer, LineFault> {
-        let rows = self.numbers.rows as usize;
-        let columns = self.numbers.columns as usize;
-        // an order that was accepted has fewer checks than columns
-        let messages = columns.saturating_sub(self.numbers.checks as usize);
+    fn read(&self, heap: Global) -> Result<Answer, Failure> {
+        let numbers = self.page.numbers();
+        let rows = usize::from(numbers.rows);
+        let columns = usize::from(numbers.columns);
+        // a page that was ordered has fewer checks than columns
+        let messages = columns.saturating_sub(usize::from(numbers.checks));
         self.read_into(heap, rows * messages, rows * columns)
     }
 
@@ -187,24 +197,18 @@ impl Bench {
         heap: Global,
         symbol_count: usize,
         height_count: usize,
-    ) -> Result<Answer, LineFault> {
-        let Some(page) = &self.held else {
-            return Err(LineFault::NoPage);
-        };
+    ) -> Result<Answer, Failure> {
         let mut symbols = vec![in heap; 0; symbol_count]?;
         let mut heights = vec![in heap; 0; height_count]?;
-        match page.read(
-            self.cells.as_slice(),
-            symbols.as_mut_slice(),
-            heights.as_mut_slice(),
-        ) {
-            Ok((drifted, risen)) => Ok(Answer::Contents {
-                drifted,
-                risen,
-                symbols,
-                heights,
-            }),
-            Err(fault) => Ok(Answer::Refused(fault.refusal())),
-        }
+        let (drifted, risen) = self
+            .page
+            .read(&self.cells, &mut symbols, &mut heights)
+            .map_err(refused)?;
+        Ok(Answer::Contents {
+            drifted,
+            risen,
+            symbols,
+            heights,
+        })
     }
 }
