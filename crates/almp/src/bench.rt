@@ -6,6 +6,7 @@ use plans::numbers::Numbers;
 use scripts::command::{Command, LineFault, parse};
 use std::alloc::{AllocError, Global};
 use std::fmt;
+use thiserror::Error;
 
 // Nothing before the first order that is accepted.
 #[derive(Drop)]
@@ -36,12 +37,14 @@ pub enum Answer {
 }
 
 // Why a command is not carried out.
-#[derive(Clone, Copy, PartialEq, Eq, Debug)]
+#[derive(Clone, Copy, PartialEq, Eq, Debug, Error)]
 pub enum Failure {
-    // the page's call is refused
+    // the call on the page is refused
+    #[error("refused {} {} {}", .0.number, .0.first, .0.second)]
     Refused(Refusal),
     // the line cannot be carried out
-    Line(LineFault),
+    #[error("error: {0}")]
+    Line(#[from] LineFault),
 }
 
 impl fmt::Display for Answer {
@@ -75,27 +78,6 @@ fn show_all<W: fmt::Write>(numbers: &[u16], f: &mut fmt::Formatter<W>) -> fmt::R
     Ok(())
 }
 
-impl fmt::Display for Failure {
-    fn fmt<W: fmt::Write>(&self, f: &mut fmt::Formatter<W>) -> fmt::Result {
-        match self {
-            Failure::Refused(
-                Refusal {
-                    number,
-                    first,
-                    second,
-                },
-            ) => write!(f, "refused {number} {first} {second}"),
-            Failure::Line(fault) => write!(f, "error: {fault}"),
-        }
-    }
-}
-
-impl From<LineFault> for Failure {
-    fn from(fault: LineFault) -> Failure {
-        Failure::Line(fault)
-    }
-}
-
 impl From<AllocError> for Failure {
     fn from(error: AllocError) -> Failure {
         Failure::Line(error.into())
@@ -121,23 +103,7 @@ impl Bench {
 
     fn carry_out(&mut self, heap: Global, command: Command) -> Result<Answer, Failure> {
         match command {
-            Command::Order {
-                kind,
-                columns,
-                checks,
-                rows,
-                heights,
-                drift,
-            } => {
-                let numbers = Numbers {
-                    columns,
-                    checks,
-                    rows,
-                    heights,
-                    drift,
-                };
-                self.order(heap, kind, numbers)
-            }
+            Command::Order { kind, numbers } => self.order(heap, kind, numbers),
             Command::Cells => self.held()?.show_cells(),
             Command::SetCells(cells) => self.held()?.set_cells(cells),
             Command::Write { symbols, heights } => self.held()?.write(&symbols, &heights),

@@ -36,7 +36,7 @@ NoName w = (w ≢ codes "order") × (w ≢ codes "cells") × (w ≢ codes "write
 
 -- the words of a line ask for this command
 abbrev pub Asks : List (List ℕ) → Command → Type 0
-Asks ws (Order kind columns checks rows heights drift) = Begins ws (codes "order") × AreNumbers (drop 1 ws) (kind ∷ columns ∷ checks ∷ rows ∷ heights ∷ drift ∷ [])
+Asks ws (Order kind n) = Begins ws (codes "order") × AreNumbers (drop 1 ws) (kind ∷ n.columns ∷ n.checks ∷ n.rows ∷ n.heights ∷ n.drift ∷ [])
 Asks ws Cells = Begins ws (codes "cells") × (length ws ≡ 1)
 Asks ws (SetCells cells) = Begins ws (codes "cells") × (1 < length ws) × AreNumbers (drop 1 ws) (vec_items cells)
 Asks ws (Write symbols heights) =

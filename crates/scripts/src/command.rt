@@ -6,6 +6,7 @@ ghost use Rattle.scripts.specs.Commands.{texts, slash_here, AreNumbers, BadNumbe
 ghost use Rattle.scripts.specs.declared.command.LineFault.TheVariants.{NoMemory, NoNumber};
 
 use crate::words;
+use plans::numbers::Numbers;
 use std::alloc::{AllocError, AllocFailed, Global};
 use thiserror::Error;
 
@@ -15,11 +16,7 @@ pub enum Command {
     // a new page of a kind
     Order {
         kind: u16,
-        columns: u16,
-        checks: u16,
-        rows: u16,
-        heights: u16,
-        drift: u16,
+        numbers: Numbers,
     },
     // the cells are shown
     Cells,
@@ -128,11 +125,13 @@ fn order(arguments: &[&[u8]]) -> Result<Command, LineFault>
     };
     Ok(Command::Order {
         kind: number(2, kind)?,
-        columns: number(3, columns)?,
-        checks: number(4, checks)?,
-        rows: number(5, rows)?,
-        heights: number(6, heights)?,
-        drift: number(7, drift)?,
+        numbers: Numbers {
+            columns: number(3, columns)?,
+            checks: number(4, checks)?,
+            rows: number(5, rows)?,
+            heights: number(6, heights)?,
+            drift: number(7, drift)?,
+        },
     })
 }
 
