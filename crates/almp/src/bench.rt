@@ -1,7 +1,7 @@
 // What a script works on: a page, once one is ordered, and the caller's cells. Every command is carried out here.
 use fields::KindField;
 use pages::page::{Page, order_kind};
-use plans::fault::{Refusal, Refuses};
+use plans::fault::Refusal;
 use plans::numbers::Numbers;
 use scripts::command::{Command, LineFault, parse};
 use std::alloc::{AllocError, Global};
@@ -40,7 +40,7 @@ pub enum Answer {
 #[derive(Clone, Copy, PartialEq, Eq, Debug, Error)]
 pub enum Failure {
     // the call on the page is refused
-    #[error("refused {} {} {}", .0.number, .0.first, .0.second)]
+    #[error("refused {0}")]
     Refused(Refusal),
     // the line cannot be carried out
     #[error("error: {0}")]
@@ -84,8 +84,8 @@ impl From<AllocError> for Failure {
     }
 }
 
-fn refused<F: Refuses + Drop>(fault: F) -> Failure {
-    Failure::Refused(fault.refusal())
+fn refused<F: Into<Refusal>>(fault: F) -> Failure {
+    Failure::Refused(fault.into())
 }
 
 impl Bench {
@@ -123,8 +123,7 @@ impl Bench {
     // A new page, with as many cells of 0; a refusal leaves the page and the cells that there were.
     fn order(&mut self, heap: Global, kind: u16, numbers: Numbers) -> Result<Answer, Failure> {
         let page = order_kind(kind, numbers).map_err(refused)?;
-        let count = usize::from(numbers.rows) * usize::from(numbers.columns);
-        let cells = vec![in heap; 0; count]?;
+        let cells = vec![in heap; 0; numbers.cell_count()]?;
         self.held = Some(Held { page, cells });
         Ok(Answer::Done)
     }
@@ -150,11 +149,7 @@ impl Held {
     // Reads into buffers of the lengths that the page asks.
     fn read(&self, heap: Global) -> Result<Answer, Failure> {
         let numbers = self.page.numbers();
-        let rows = usize::from(numbers.rows);
-        let columns = usize::from(numbers.columns);
-        // a page that was ordered has fewer checks than columns
-        let messages = columns.saturating_sub(usize::from(numbers.checks));
-        self.read_into(heap, rows * messages, rows * columns)
+        self.read_into(heap, numbers.symbol_count(), numbers.cell_count())
     }
 
     // Reads into buffers of these lengths, of zeros.

@@ -4,7 +4,7 @@ ghost use Rattle.images.specs.Refusals.{image_refusal, save_refusal, byte_of_mar
 ghost use Rattle.images.specs.declared.fault.ImageFault.TheVariants.{Header, Marking};
 ghost use Rattle.images.specs.declared.fault.SaveFault.TheVariants.{Page};
 
-use plans::fault::{MarkingFault, OrderFault, Refusal, Refuses};
+use plans::fault::{MarkingFault, OrderFault, Refusal};
 use rules::fault::PageFault;
 
 // Why bytes are no image.
@@ -42,18 +42,18 @@ impl From<MarkingFault> for ImageFault {
     }
 }
 
-impl Refuses for ImageFault {
-    ghost means = { image_refusal };
+impl From<ImageFault> for Refusal {
+    ghost from_gives = { λ fault r. r ≡ image_refusal fault };
 
-    fn refusal(&self) -> Refusal {
-        match self {
-            ImageFault::Length => refusal_of(31, 0, 0),
-            ImageFault::Check(block) => refusal_of(32, *block, 0),
-            ImageFault::Word(byte) => refusal_of(33, 0, *byte),
-            ImageFault::Header(fault) => refusal_of(34, fault.refusal().number, 0),
-            ImageFault::Marking(fault) => refusal_of(35, 0, marking_byte(*fault)),
-            ImageFault::Blocks(wanted) => refusal_of(36, *wanted, 0),
-            ImageFault::Filler(block, byte) => refusal_of(37, *block, *byte),
+    fn from(fault: ImageFault) -> Refusal {
+        match fault {
+            ImageFault::Length => Refusal::new(31, 0, 0),
+            ImageFault::Check(block) => Refusal::new(32, block, 0),
+            ImageFault::Word(byte) => Refusal::new(33, 0, byte),
+            ImageFault::Header(fault) => Refusal::new(34, Refusal::from(fault).number, 0),
+            ImageFault::Marking(fault) => Refusal::new(35, 0, marking_byte(fault)),
+            ImageFault::Blocks(wanted) => Refusal::new(36, wanted, 0),
+            ImageFault::Filler(block, byte) => Refusal::new(37, block, byte),
         }
     }
 }
@@ -77,14 +77,14 @@ impl From<PageFault> for SaveFault {
     }
 }
 
-impl Refuses for SaveFault {
-    ghost means = { save_refusal };
+impl From<SaveFault> for Refusal {
+    ghost from_gives = { λ fault r. r ≡ save_refusal fault };
 
-    fn refusal(&self) -> Refusal {
-        match self {
-            SaveFault::Page(fault) => fault.refusal(),
-            SaveFault::Full => refusal_of(41, 0, 0),
-            SaveFault::Early => refusal_of(42, 0, 0),
+    fn from(fault: SaveFault) -> Refusal {
+        match fault {
+            SaveFault::Page(fault) => Refusal::from(fault),
+            SaveFault::Full => Refusal::new(41, 0, 0),
+            SaveFault::Early => Refusal::new(42, 0, 0),
         }
     }
 }
@@ -96,15 +96,5 @@ fn marking_byte(fault: MarkingFault) -> u16
     match fault {
         MarkingFault::Long => 14,
         MarkingFault::Column(place) => 16 + 2 * place as u16,
-    }
-}
-
-fn refusal_of(number: u16, first: u16, second: u16) -> Refusal
-    ensures { result ≡ record { number = number; first = first; second = second } }
-{
-    Refusal {
-        number,
-        first,
-        second,
     }
 }

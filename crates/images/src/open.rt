@@ -216,8 +216,7 @@ impl Raw {
         self.check_seals()?;
         self.check_word()?;
         let page = self.page()?;
-        let numbers = page.numbers();
-        let cells = numbers.rows as usize * numbers.columns as usize;
+        let cells = page.numbers().cell_count();
         self.check_blocks(cells)?;
         self.check_filler(cells)?;
         Ok(page)
@@ -302,7 +301,7 @@ impl Opened {
     {
         self.page.check()?;
         let numbers = self.page.numbers();
-        if cells.len() != numbers.rows as usize * numbers.columns as usize {
+        if cells.len() != numbers.cell_count() {
             return Err(PageFault::Length(Buffer::Cells));
         }
         self.fill(0, cells);

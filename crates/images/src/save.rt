@@ -62,7 +62,7 @@ pub fn begin(page: &Page<KindField>, image: &mut [u8]) -> Result<Begun, SaveFaul
 {
     page.check()?;
     let numbers = page.numbers();
-    let cells = numbers.rows as usize * numbers.columns as usize;
+    let cells = numbers.cell_count();
     if image.len() != image_size(cells) {
         return Err(SaveFault::Page(PageFault::Length(Buffer::Image)));
     }
@@ -157,7 +157,7 @@ pub fn save(page: &Page<KindField>, cells: &[u16], image: &mut [u8]) -> Result<(
 {
     page.check()?;
     let numbers = page.numbers();
-    if cells.len() != numbers.rows as usize * numbers.columns as usize {
+    if cells.len() != numbers.cell_count() {
         return Err(SaveFault::Page(PageFault::Length(Buffer::Cells)));
     }
     let mut begun = begin(page, image)?;

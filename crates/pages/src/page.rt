@@ -87,7 +87,7 @@ impl<F: Field + Drop> Page<F> {
     {
         self.check()?;
         let numbers = self.plan.numbers();
-        if cells.len() != numbers.rows as usize * numbers.columns as usize {
+        if cells.len() != numbers.cell_count() {
             return Err(PageFault::Length(Buffer::Cells));
         }
         Ok(())
@@ -95,15 +95,14 @@ impl<F: Field + Drop> Page<F> {
 
     // Buffers of symbols and heights of other lengths than the page asks.
     pub(crate) fn check_buffers(&self, symbols: &[u16], heights: &[u16]) -> Result<(), PageFault>
-        requires { Ranges (F.Ring.ops self.now.field).order self.now.plan.numbers }
         ensures fault { result ≡ verdict (buffers_fault (over F.Ring.ops F.Field.points self.now) (buffers symbols.now heights.now)) }
         ensures sizes { OnOk result ((length symbols.now ≡ symbol_count (over F.Ring.ops F.Field.points self.now)) × (length heights.now ≡ cell_count (over F.Ring.ops F.Field.points self.now))) }
     {
         let numbers = self.plan.numbers();
-        if symbols.len() != numbers.rows as usize * (numbers.columns - numbers.checks) as usize {
+        if symbols.len() != numbers.symbol_count() {
             return Err(PageFault::Length(Buffer::Symbols));
         }
-        if heights.len() != numbers.rows as usize * numbers.columns as usize {
+        if heights.len() != numbers.cell_count() {
             return Err(PageFault::Length(Buffer::Heights));
         }
         Ok(())

@@ -1,5 +1,5 @@
 -- The marking of a page, and what one more marked column makes of it.
-use Rattle.std.specs.Prelude.{◌≡◌, ℕ, ◌-◌, ◌≤◌, min, max, Bool, true, ◌&&◌, ◌||◌, List, [], ◌∷◌, length, Some, None, Option, nat_le, nat_lt, slice_index}
+use Rattle.std.specs.Prelude.{◌≡◌, ℕ, ◌-◌, ◌<◌, ◌≤◌, min, max, Bool, true, ◌&&◌, ◌||◌, List, [], ◌∷◌, length, Some, None, Option, nat_le, nat_lt, slice_index}
 use Rattle.basics.specs.Checks.{check, ◌or_else◌, lowest}
 use Rattle.algebra.specs.Rows.{among, rising}
 use Rattle.plans.specs.declared.numbers.Numbers.{Numbers}
@@ -26,6 +26,12 @@ mark_fault p ms c =
 abbrev pub marked_by : Option MarkFault → ℕ → List ℕ → List ℕ
 marked_by None c ms = inserted c ms
 marked_by (Some f) c ms = ms
+
+-- the place of a column in a rising list that has not got it: those before are smaller, and the rest are larger
+pub record IsPlace (c : ℕ) (ms : List ℕ) (place : ℕ) : Type 0 where
+  pub inside : place ≤ length ms
+  pub before : (k : ℕ) → k < place → slice_index ms k < c
+  pub after : (k : ℕ) → place ≤ k → k < length ms → c < slice_index ms k
 
 -- the refusal of a mark: its number, and the column as the second place
 abbrev pub mark_refusal : MarkFault → Refusal

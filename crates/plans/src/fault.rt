@@ -1,11 +1,11 @@
 // Refusals: what every refusal says, why an order is refused, and why a column cannot be marked.
 ghost use Rattle.std.specs.Prelude.{◌≡◌};
-ghost use Rattle.plans.specs.declared.fault.Refusal.{Refusal as Meaning};
 ghost use Rattle.plans.specs.declared.fault.OrderFault.TheVariants.{Kind};
 ghost use Rattle.plans.specs.Orders.{order_refusal};
 ghost use Rattle.plans.specs.Marks.{mark_refusal};
 
 use fields::UnknownKind;
+use std::fmt;
 
 // A refusal as every caller sees it: its number, and two places, 0 where none is named.
 #[derive(Clone, Copy, PartialEq, Eq, Debug)]
@@ -15,12 +15,23 @@ pub struct Refusal {
     pub second: u16,
 }
 
-// Why a call is refused: each case has its number and its places.
-pub trait Refuses {
-    ghost means: { Self → Meaning };
+impl Refusal {
+    // The refusal of this number, with these places.
+    pub fn new(number: u16, first: u16, second: u16) -> Refusal
+        ensures { result ≡ record { number = number; first = first; second = second } }
+    {
+        Refusal {
+            number,
+            first,
+            second,
+        }
+    }
+}
 
-    fn refusal(&self) -> Refusal
-        ensures { result ≡ means self.now };
+impl fmt::Display for Refusal {
+    fn fmt<W: fmt::Write>(&self, f: &mut fmt::Formatter<W>) -> fmt::Result {
+        write!(f, "{} {} {}", self.number, self.first, self.second)
+    }
 }
 
 // An order that is refused.
@@ -40,11 +51,11 @@ pub enum OrderFault {
     Drift,
 }
 
-impl Refuses for OrderFault {
-    ghost means = { order_refusal };
+impl From<OrderFault> for Refusal {
+    ghost from_gives = { λ fault r. r ≡ order_refusal fault };
 
-    fn refusal(&self) -> Refusal {
-        let number = match self {
+    fn from(fault: OrderFault) -> Refusal {
+        let number = match fault {
             OrderFault::Kind => 1,
             OrderFault::Columns => 2,
             OrderFault::Checks => 3,
@@ -52,11 +63,7 @@ impl Refuses for OrderFault {
             OrderFault::Heights => 5,
             OrderFault::Drift => 6,
         };
-        Refusal {
-            number,
-            first: 0,
-            second: 0,
-        }
+        Refusal::new(number, 0, 0)
     }
 }
 
@@ -79,19 +86,14 @@ pub enum MarkFault {
     Full(u16),
 }
 
-impl Refuses for MarkFault {
-    ghost means = { mark_refusal };
+impl From<MarkFault> for Refusal {
+    ghost from_gives = { λ fault r. r ≡ mark_refusal fault };
 
-    fn refusal(&self) -> Refusal {
-        let (number, column) = match self {
-            MarkFault::Column(column) => (14, *column),
-            MarkFault::Marked(column) => (15, *column),
-            MarkFault::Full(column) => (16, *column),
-        };
-        Refusal {
-            number,
-            first: 0,
-            second: column,
+    fn from(fault: MarkFault) -> Refusal {
+        match fault {
+            MarkFault::Column(column) => Refusal::new(14, 0, column),
+            MarkFault::Marked(column) => Refusal::new(15, 0, column),
+            MarkFault::Full(column) => Refusal::new(16, 0, column),
         }
     }
 }

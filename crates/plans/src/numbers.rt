@@ -1,5 +1,5 @@
 // The numbers of a page, and which of them can be ordered.
-ghost use Rattle.std.specs.Prelude.{◌≡◌, ◌<◌, ◌≤◌, length, OnOk};
+ghost use Rattle.std.specs.Prelude.{◌≡◌, ◌-◌, ◌*◌, ◌≤◌, length, OnOk};
 ghost use Rattle.basics.specs.Checks.{check, verdict};
 ghost use Rattle.plans.specs.Orders.{order_fault, Ranges};
 ghost use Rattle.plans.specs.Marks.{wrong_column, columns_fault, marking_fault, FitsMarking};
@@ -32,7 +32,7 @@ impl Numbers {
         if self.rows < 1 || self.rows > 32 {
             return Err(OrderFault::Rows);
         }
-        if self.heights < 1 || self.heights > 256 || order as u32 * self.heights as u32 > 4096 {
+        if self.heights < 1 || self.heights > 256 || self.level_count(order) > 4096 {
             return Err(OrderFault::Heights);
         }
         if self.drift < 1 || self.drift >= order {
@@ -41,25 +41,45 @@ impl Numbers {
         Ok(())
     }
 
-    // A column of a marking that is not above the one before it, or that the page has not.
-    fn check_column(&self, marking: &[u16], i: usize) -> Result<(), MarkingFault>
-        requires inside { i < length marking.now }
-        requires few { i < 64 }
-        ensures { result ≡ verdict (check (wrong_column self.now.columns marking.now i) (Column i)) }
+    // How many cells a page has.
+    pub fn cell_count(&self) -> usize
+        ensures { result ≡ self.now.rows * self.now.columns }
     {
-        if marking[i] >= self.columns || (i > 0 && marking[i] <= marking[i - 1]) {
-            return Err(MarkingFault::Column(i as u8));
-        }
-        Ok(())
+        self.rows as usize * self.columns as usize
     }
 
-    // The first such column.
+    // How many message symbols a row has: none where the checks leave no column for one.
+    pub fn message_count(&self) -> usize
+        ensures { result ≡ self.now.columns - self.now.checks }
+    {
+        self.columns.saturating_sub(self.checks) as usize
+    }
+
+    // How many message symbols a page has.
+    pub fn symbol_count(&self) -> usize
+        ensures { result ≡ self.now.rows * (self.now.columns - self.now.checks) }
+    {
+        self.rows as usize * self.message_count()
+    }
+
+    // How many levels a cell has, over a field of this order.
+    pub fn level_count(&self, order: u16) -> u32
+        ensures { result ≡ order * self.now.heights }
+    {
+        order as u32 * self.heights as u32
+    }
+
+    // The first column of a marking that is not above the one before it, or that the page has not.
     fn check_columns(&self, marking: &[u16]) -> Result<(), MarkingFault>
         requires { length marking.now ≤ 64 }
         ensures { result ≡ verdict (columns_fault self.now.columns marking.now) }
     {
-        for i in 0..marking.len() {
-            self.check_column(marking, i)?;
+        let mut low = 0;
+        for (i, &column) in marking.iter().enumerate() {
+            if column < low || column >= self.columns {
+                return Err(MarkingFault::Column(i as u8));
+            }
+            low = column + 1;
         }
         Ok(())
     }

@@ -1,14 +1,14 @@
 // A page's numbers and which of its columns are marked.
-ghost use Rattle.std.specs.Prelude.{◌≡◌, ◌+◌, ◌<◌, ◌≤◌, true, false, length, take, IfOk, OnOk};
+ghost use Rattle.std.specs.Prelude.{◌≡◌, ◌+◌, ◌<◌, ◌≤◌, true, length, take, not, is_some, IfSome, IfOk, OnOk};
 ghost use Rattle.basics.specs.Checks.{verdict, fault_of, lowest};
 ghost use Rattle.algebra.specs.Rows.{among, rising};
-ghost use Rattle.plans.specs.Marks.{inserted, mark_fault, marked_by, marking_fault};
+ghost use Rattle.plans.specs.Marks.{inserted, mark_fault, marked_by, marking_fault, IsPlace};
 
 use crate::fault::{MarkFault, MarkingFault};
 use crate::numbers::Numbers;
-use codes::correct::is_marked;
 
 // The marking is the first `count` of `marked`: rising columns of the page, at most as many as it has checks.
+// It is an array and a count, since a plan is copied and the kit's vectors of a fixed capacity are not.
 #[derive(Clone, Copy)]
 pub struct Plan {
     numbers: Numbers,
@@ -65,63 +65,52 @@ impl Plan {
         ensures marking { take self.new.count self.new.marked ≡ marked_by (mark_fault self.old.numbers (take self.old.count self.old.marked) column) column (take self.old.count self.old.marked) }
         ensures numbers { self.new.numbers ≡ self.old.numbers }
     {
-        self.check_mark(column)?;
-        self.insert(column);
+        let place = self.check_mark(column)?;
+        self.insert(place, column);
         Ok(())
     }
 
-    // What stands against marking a column.
-    fn check_mark(&self, column: u16) -> Result<(), MarkFault>
-        ensures fault { result ≡ verdict (mark_fault self.now.numbers (take self.now.count self.now.marked) column) }
+    // The place of a column in the marking, or what stands against marking it.
+    fn check_mark(&self, column: u16) -> Result<usize, MarkFault>
+        ensures fault { fault_of result ≡ mark_fault self.now.numbers (take self.now.count self.now.marked) column }
+        ensures inside { OnOk result (column < self.now.numbers.columns) }
         ensures room { OnOk result (self.now.count < 64) }
         ensures few { OnOk result (self.now.count < self.now.numbers.checks) }
-        ensures inside { OnOk result (column < self.now.numbers.columns) }
-        ensures unmarked { OnOk result (among column (take self.now.count self.now.marked) ≡ false) }
+        ensures place { IfOk result (IsPlace column (take self.now.count self.now.marked)) }
     {
         if column >= self.numbers.columns {
             return Err(MarkFault::Column(column));
         }
-        if is_marked(self.marking(), column as usize) {
+        let Some(place) = self.place_of(column) else {
             return Err(MarkFault::Marked(column));
-        }
+        };
         if self.count >= 64 || self.count >= self.numbers.checks as usize {
             return Err(MarkFault::Full(column));
         }
-        Ok(())
+        Ok(place)
     }
 
-    // Puts the column into the marking.
-    fn insert(&mut self, column: u16)
+    // The place in the marking where an unmarked column goes; none for a marked one.
+    fn place_of(&self, column: u16) -> Option<usize>
+        ensures marked { is_some result ≡ not (among column (take self.now.count self.now.marked)) }
+        ensures place { IfSome result (IsPlace column (take self.now.count self.now.marked)) }
+    {
+        self.marking().binary_search(&column).err()
+    }
+
+    // Puts the column into the marking, in its place.
+    fn insert(&mut self, place: usize, column: u16)
+        requires inside { column < self.old.numbers.columns }
         requires room { self.old.count < 64 }
         requires few { self.old.count < self.old.numbers.checks }
-        requires inside { column < self.old.numbers.columns }
-        requires unmarked { among column (take self.old.count self.old.marked) ≡ false }
+        requires place { IsPlace column (take self.old.count self.old.marked) place }
         ensures marking { take self.new.count self.new.marked ≡ inserted column (take self.old.count self.old.marked) }
         ensures numbers { self.new.numbers ≡ self.old.numbers }
     {
-        let (marked, count) = spliced(self.marked, self.count, column);
-        *self = Plan {
-            numbers: self.numbers,
-            marked,
-            count,
-        };
+        self.marked.copy_within(place..self.count, place + 1);
+        self.marked[place] = column;
+        self.count += 1;
     }
-}
-
-// The first `count` columns with one more, and how many these are.
-fn spliced(mut marked: [u16; 64], count: usize, column: u16) -> ([u16; 64], usize)
-    requires { count < 64 }
-    ensures count { result.1 ≡ count + 1 }
-    ensures value { take result.1 result.0 ≡ inserted column (take count marked) }
-{
-    let mut rest = column;
-    for i in 0..count {
-        let here = marked[i];
-        marked[i] = rest.min(here);
-        rest = rest.max(here);
-    }
-    marked[count] = rest;
-    (marked, count + 1)
 }
 
 // The columns, and zeros after them.

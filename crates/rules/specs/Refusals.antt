@@ -12,7 +12,7 @@ abbrev at : ℕ → ℕ → ℕ → Refusal
 at x y z = record { number = x; first = y; second = z }
 
 -- the place that names a buffer
-abbrev buffer_number : Buffer → ℕ
+abbrev pub buffer_number : Buffer → ℕ
 buffer_number buffer.Cells = 1
 buffer_number buffer.Symbols = 2
 buffer_number buffer.Heights = 3

@@ -1,9 +1,9 @@
 // Why a call on a page is refused.
 ghost use Rattle.std.specs.Prelude.{◌≡◌};
 ghost use Rattle.rules.specs.declared.fault.PageFault.TheVariants.{Order, Mark};
-ghost use Rattle.rules.specs.Refusals.{page_refusal};
+ghost use Rattle.rules.specs.Refusals.{buffer_number, page_refusal};
 
-use plans::fault::{MarkFault, OrderFault, Refusal, Refuses};
+use plans::fault::{MarkFault, OrderFault, Refusal};
 
 // The buffers that a caller brings, by the place that a refusal names.
 #[derive(Clone, Copy, PartialEq, Eq, Debug)]
@@ -12,6 +12,20 @@ pub enum Buffer {
     Symbols,
     Heights,
     Image,
+}
+
+impl Buffer {
+    // The place by which a refusal names it.
+    pub fn number(self) -> u16
+        ensures { result ≡ buffer_number self }
+    {
+        match self {
+            Buffer::Cells => 1,
+            Buffer::Symbols => 2,
+            Buffer::Heights => 3,
+            Buffer::Image => 4,
+        }
+    }
 }
 
 // A call on a page that is refused, with the row and the column that it names.
@@ -61,37 +75,24 @@ impl From<MarkFault> for PageFault {
     }
 }
 
-impl Refuses for PageFault {
-    ghost means = { page_refusal };
+impl From<PageFault> for Refusal {
+    ghost from_gives = { λ fault r. r ≡ page_refusal fault };
 
-    fn refusal(&self) -> Refusal {
-        match self {
-            PageFault::Order(fault) => fault.refusal(),
-            PageFault::Length(Buffer::Cells) => refusal_of(11, 1, 0),
-            PageFault::Length(Buffer::Symbols) => refusal_of(11, 2, 0),
-            PageFault::Length(Buffer::Heights) => refusal_of(11, 3, 0),
-            PageFault::Length(Buffer::Image) => refusal_of(11, 4, 0),
-            PageFault::Symbol(row, column) => refusal_of(12, *row, *column),
-            PageFault::Height(row, column) => refusal_of(13, *row, *column),
-            PageFault::Mark(fault) => fault.refusal(),
-            PageFault::Place(row, column) => refusal_of(14, *row, *column),
-            PageFault::Dead(row, column) => refusal_of(17, *row, *column),
-            PageFault::Alive(row, column) => refusal_of(18, *row, *column),
-            PageFault::Amount(row, column) => refusal_of(19, *row, *column),
-            PageFault::Reading(row, column) => refusal_of(21, *row, *column),
-            PageFault::Lost(row) => refusal_of(22, *row, 0),
-            PageFault::Far(row, column) => refusal_of(23, *row, *column),
-            PageFault::Under(row, column) => refusal_of(24, *row, *column),
+    fn from(fault: PageFault) -> Refusal {
+        match fault {
+            PageFault::Order(fault) => Refusal::from(fault),
+            PageFault::Length(buffer) => Refusal::new(11, buffer.number(), 0),
+            PageFault::Symbol(row, column) => Refusal::new(12, row, column),
+            PageFault::Height(row, column) => Refusal::new(13, row, column),
+            PageFault::Mark(fault) => Refusal::from(fault),
+            PageFault::Place(row, column) => Refusal::new(14, row, column),
+            PageFault::Dead(row, column) => Refusal::new(17, row, column),
+            PageFault::Alive(row, column) => Refusal::new(18, row, column),
+            PageFault::Amount(row, column) => Refusal::new(19, row, column),
+            PageFault::Reading(row, column) => Refusal::new(21, row, column),
+            PageFault::Lost(row) => Refusal::new(22, row, 0),
+            PageFault::Far(row, column) => Refusal::new(23, row, column),
+            PageFault::Under(row, column) => Refusal::new(24, row, column),
         }
-    }
-}
-
-fn refusal_of(number: u16, first: u16, second: u16) -> Refusal
-    ensures { result ≡ record { number = number; first = first; second = second } }
-{
-    Refusal {
-        number,
-        first,
-        second,
     }
 }

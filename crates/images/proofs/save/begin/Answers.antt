@@ -15,7 +15,7 @@ few_marks : (p : Plan) → length (marking p) < 256
 few_marks p = omega (arith, p.room, length-take p.count p.marked)
 
 pub image_size-requires : goal.image_size-requires
-image_size-requires c = few_cells _ _ c.numbers-numbers.ensures c.in_ok-check.ensures.ranges
+image_size-requires c = omega (arith, c.cell_count-cells.ensures, few_cells _ _ c.numbers-numbers.ensures c.in_ok-check.ensures.ranges)
 
 pub put_head-requires : goal.put_head-requires
 put_head-requires c =
@@ -28,4 +28,4 @@ put_head-requires c =
     }
 
 pub invariant_of-result : goal.invariant_of-result
-invariant_of-result c = record { few = few_cells _ _ c.numbers-numbers.ensures c.in_ok-check.ensures.ranges }
+invariant_of-result c = record { few = omega (arith, c.cell_count-cells.ensures, few_cells _ _ c.numbers-numbers.ensures c.in_ok-check.ensures.ranges) }

@@ -1,9 +1,8 @@
-use Rattle.std.proofs.Common.{◌/◌, ◌≤◌, IfOk, Err, sym, ap, ◌∙◌, subst}
+use Rattle.std.proofs.Common.{ℕ, ◌/◌, ◌≤◌, IfOk, Err, sym, ap, ◌∙◌, subst}
 use Rattle.std.proofs.lemmas.Result.{err_from_is_err_and}
 use Rattle.basics.specs.Checks.{lowest, told, fault_of}
 use Rattle.basics.proofs.Checking.{both_none, first_passes, none_from_verdict}
 use Rattle.rules.specs.Views.{kind_fault}
-use Rattle.plans.specs.declared.numbers.Numbers.{Numbers}
 use Rattle.images.specs.Format.{cell_count}
 use Rattle.images.specs.Opening.{bytes_at, numbers_in, seal_fault, word_fault}
 use Rattle.images.specs.Opened.{Shows}
@@ -27,15 +26,15 @@ returns-in_err-page c =
 pub check_blocks-requires : goal.check_blocks-requires
 check_blocks-requires c =
     let at = bytes_at c.args.self.now.bytes in let p = c.in_ok-page.ensures in
-    let e = c.numbers-numbers.ensures ∙ p.page.numbers in
-    subst (λ (m : Numbers). cell_count m ≤ 8192) (sym e) (few_cells (at 5) (numbers_in at) (told_none Header _ (both_none _ _ (sym p.fault)).0))
+    let count = c.cell_count-cells.ensures ∙ ap cell_count (c.numbers.ensures ∙ p.page.numbers) in
+    subst (λ (k : ℕ). k ≤ 8192) (sym count) (few_cells (at 5) (numbers_in at) (told_none Header _ (both_none _ _ (sym p.fault)).0))
 
 pub check_filler-requires : goal.check_filler-requires
 check_filler-requires c =
     let at = bytes_at c.args.self.now.bytes in let p = c.in_ok-page.ensures in
-    let e = c.numbers-numbers.ensures ∙ p.page.numbers in
+    let count = c.cell_count-cells.ensures ∙ ap cell_count (c.numbers.ensures ∙ p.page.numbers) in
     record {
-      cells = ap cell_count e;
-      few = subst (λ (m : Numbers). cell_count m ≤ 8192) (sym e) (few_cells (at 5) (numbers_in at) (told_none Header _ (both_none _ _ (sym p.fault)).0));
+      cells = count;
+      few = subst (λ (k : ℕ). k ≤ 8192) (sym count) (few_cells (at 5) (numbers_in at) (told_none Header _ (both_none _ _ (sym p.fault)).0));
       size = c.in_ok-check_size.ensures.few;
     }

@@ -1,24 +1,34 @@
-use Rattle.std.proofs.Common.{ℕ, length, Err, sym, ap, ◌∙◌}
-use Rattle.std.proofs.lemmas.Result.{err_from_is_err_and}
+use Rattle.std.proofs.Common.{◌≡◌, ℕ, ◌+◌, ◌-◌, true, length, get_or, sym, ap, ◌∙◌, arith}
+use Rattle.std.proofs.lemmas.Bool.{or_left, le-leb}
 use Rattle.basics.specs.Checks.{check, verdict}
-use Rattle.basics.proofs.Checking.{some_from_verdict, none_from_verdict, lowest_stop, lowest_more, lowest_all}
+use Rattle.basics.proofs.Checking.{lowest_stop, lowest_more, lowest_all, check_false}
 use Rattle.plans.specs.Marks.{wrong_column}
 use Rattle.plans.specs.declared.fault.MarkingFault.TheVariants.{Column}
+use Rattle.plans.proofs.Marking.{column_low, column_fine}
+use Rattle.plans.proofs.numbers.Numbers.check_columns.Goals.{then-column-low-via-then-column-low, then-column-low-via-else-column-low+then-column-self}
 use Rattle.plans.proofs.numbers.Numbers.check_columns.Goals as goal
 
-pub returns-in_err-check_column : goal.returns-in_err-check_column
-returns-in_err-check_column c =
-    let xs = c.args.marking.now in let at = λ (i : ℕ). check (wrong_column c.args.self.now.columns xs i) (Column i) in
-    let p = err_from_is_err_and c.from_residual.result c.from_residual.ensures.1 in
-    p.1 ∙ ap Err p.2
-    ∙ ap verdict (sym (c.loop-i.invariant ∙ lowest_stop at (length xs) c.loop-i.i _ c.loop-i-test.true (some_from_verdict (at c.loop-i.i) _ c.in_err-check_column.ensures)))
+pub returns-then-column-low : goal.returns-then-column-low
+returns-then-column-low c =
+    let n = c.args.self.now.columns in let xs = c.args.marking.now in let at = λ (i : ℕ). check (wrong_column n xs i) (Column i) in
+    let l = c.loop-i in
+    let wrong : wrong_column n xs l.i ≡ true = elim c.then-column-low.branch [
+      | then-column-low-via-then-column-low w ↦ column_low n xs l.i l.low l.invariant.1 l.invariant.2 w.if-column-low.true
+      | then-column-low-via-else-column-low+then-column-self w ↦ or_left _ _ (le-leb n (get_or xs l.i 0) w.if-column-self.true)
+    ] in
+    ap verdict (sym (l.invariant.0 ∙ lowest_stop at (length xs) l.i _ c.loop-i-test.true (ap (λ b. check b (Column l.i)) wrong)))
 
 pub loop-i-preserved : goal.loop-i-preserved
 loop-i-preserved c =
-    let xs = c.args.marking.now in let at = λ (i : ℕ). check (wrong_column c.args.self.now.columns xs i) (Column i) in
-    c.loop-i.invariant ∙ lowest_more at (length xs) c.loop-i.i c.loop-i-test.true (none_from_verdict (at c.loop-i.i) c.in_ok-check_column.ensures)
+    let n = c.args.self.now.columns in let xs = c.args.marking.now in let at = λ (i : ℕ). check (wrong_column n xs i) (Column i) in
+    let l = c.loop-i in let e : l.i ≡ (l.i + 1) - 1 = omega arith in (
+      l.invariant.0 ∙ lowest_more at (length xs) l.i (omega arith)
+          (check_false _ _ (column_fine n xs l.i l.low l.invariant.1 l.invariant.2 (omega arith) (omega arith))),
+      λ z. absurd (omega arith),
+      λ h. ap (λ (k : ℕ). get_or xs k 0 + 1) e,
+    )
 
 pub returns : goal.returns
 returns c =
-    let xs = c.args.marking.now in
-    ap verdict (sym (c.loop-i.invariant ∙ lowest_all (λ i. check (wrong_column c.args.self.now.columns xs i) (Column i)) (length xs) c.loop-i.i c.loop-i-test.false))
+    let xs = c.args.marking.now in let l = c.loop-i in
+    ap verdict (sym (l.invariant.0 ∙ lowest_all (λ i. check (wrong_column c.args.self.now.columns xs i) (Column i)) (length xs) l.i (omega arith)))
