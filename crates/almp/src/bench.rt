@@ -1,24 +1,29 @@
 // What a script works on: a page, once one is ordered, and the caller's cells. Every command is carried out here.
-use fields::{KindField, Ring};
+use fields::KindField;
 use pages::page::{Page, order_kind};
 use plans::fault::Refusal;
 use plans::numbers::Numbers;
 use scripts::command::{Command, LineFault, parse};
-use std::alloc::Global;
+use std::alloc::{AllocError, Global};
 use std::fmt;
+use thiserror::Error;
 
+// Nothing before the first order that is accepted.
 #[derive(Drop)]
 pub struct Bench {
-    held: Option<Page<KindField>>,
-    // the numbers of the page held, and zeros before there is one
-    numbers: Numbers,
+    held: Option<Held>,
+}
+
+// A page, and the caller's cells.
+#[derive(Drop)]
+struct Held {
+    page: Page<KindField>,
     cells: Vec<u16>,
 }
 
-// What is printed for a line.
+// What is printed for a command that is carried out.
 #[derive(Drop)]
 pub enum Answer {
-    // the command was carried out
     Done,
     // the readings
     Cells(Vec<u16>),
@@ -29,10 +34,17 @@ pub enum Answer {
         symbols: Vec<u16>,
         heights: Vec<u16>,
     },
-    // the call was refused
+}
+
+// Why a command is not carried out.
+#[derive(Clone, Copy, PartialEq, Eq, Debug, Error)]
+pub enum Failure {
+    // the call on the page is refused
+    #[error("refused {0}")]
     Refused(Refusal),
     // the line cannot be carried out
-    Wrong(LineFault),
+    #[error("error: {0}")]
+    Line(#[from] LineFault),
 }
 
 impl fmt::Display for Answer {
@@ -54,8 +66,6 @@ impl fmt::Display for Answer {
                 f.write_str(" /")?;
                 show_all(heights.as_slice(), f)
             }
-            Answer::Refused(refusal) => write!(f, "refused {refusal}"),
-            Answer::Wrong(fault) => write!(f, "error: {fault}"),
         }
     }
 }
@@ -68,107 +78,78 @@ fn show_all<W: fmt::Write>(numbers: &[u16], f: &mut fmt::Formatter<W>) -> fmt::R
     Ok(())
 }
 
+impl From<AllocError> for Failure {
+    fn from(error: AllocError) -> Failure {
+        Failure::Line(error.into())
+    }
+}
+
+fn refused<F: Into<Refusal>>(fault: F) -> Failure {
+    Failure::Refused(fault.into())
+}
+
 impl Bench {
-    // No page, and no cells.
-    pub(crate) fn new(heap: Global) -> Bench {
-        Bench {
-            held: None,
-            numbers: Numbers {
-                columns: 0,
-                checks: 0,
-                rows: 0,
-                heights: 0,
-                drift: 0,
-            },
-            cells: Vec::new(heap),
-        }
+    pub(crate) fn new() -> Bench {
+        Bench { held: None }
     }
 
     // The answer to a line, and none for one with no words.
-    pub(crate) fn answer(&mut self, heap: Global, line: &[u8]) -> Option<Answer> {
-        match parse(heap, line) {
-            Ok(None) => None,
-            Ok(Some(command)) => match self.carry_out(heap, command) {
-                Ok(answer) => Some(answer),
-                Err(fault) => Some(Answer::Wrong(fault)),
-            },
-            Err(fault) => Some(Answer::Wrong(fault)),
+    pub(crate) fn answer(&mut self, heap: Global, line: &[u8]) -> Result<Option<Answer>, Failure> {
+        match parse(heap, line)? {
+            Some(command) => Ok(Some(self.carry_out(heap, command)?)),
+            None => Ok(None),
         }
     }
 
-    fn carry_out(&mut self, heap: Global, command: Command) -> Result<Answer, LineFault> {
+    fn carry_out(&mut self, heap: Global, command: Command) -> Result<Answer, Failure> {
         match command {
-            Command::Order {
-                kind,
-                columns,
-                checks,
-                rows,
-                heights,
-                drift,
-            } => {
-                let numbers = Numbers {
-                    columns,
-                    checks,
-                    rows,
-                    heights,
-                    drift,
-                };
-                self.order(heap, kind, numbers)
-            }
-            Command::Cells => self.show_cells(),
-            Command::SetCells(cells) => self.set_cells(cells),
-            Command::Write { symbols, heights } => {
-                self.write(symbols.as_slice(), heights.as_slice())
-            }
-            Command::Read => self.read(heap),
+            Command::Order { kind, numbers } => self.order(heap, kind, numbers),
+            Command::Cells => self.held()?.show_cells(),
+            Command::SetCells(cells) => self.held()?.set_cells(cells),
+            Command::Write { symbols, heights } => self.held()?.write(&symbols, &heights),
+            Command::Read => self.held()?.read(heap),
             Command::ReadInto { symbols, heights } => {
-                self.read_into(heap, symbols as usize, heights as usize)
+                self.held()?
+                    .read_into(heap, usize::from(symbols), usize::from(heights))
             }
         }
+    }
+
+    // What is held, for a command that needs a page.
+    fn held(&mut self) -> Result<&mut Held, LineFault> {
+        self.held.as_mut().ok_or(LineFault::NoPage)
     }
 
     // A new page, with as many cells of 0; a refusal leaves the page and the cells that there were.
-    fn order(&mut self, heap: Global, kind: u16, numbers: Numbers) -> Result<Answer, LineFault> {
-        match order_kind(kind, numbers) {
-            Ok(page) => {
-                let cells = vec![in heap; 0; numbers.cell_count()]?;
-                self.held = Some(page);
-                self.numbers = numbers;
-                self.cells = cells;
-                Ok(Answer::Done)
-            }
-            Err(fault) => Ok(Answer::Refused(fault.into())),
-        }
+    fn order(&mut self, heap: Global, kind: u16, numbers: Numbers) -> Result<Answer, Failure> {
+        let page = order_kind(kind, numbers).map_err(refused)?;
+        let cells = vec![in heap; 0; numbers.cell_count()]?;
+        self.held = Some(Held { page, cells });
+        Ok(Answer::Done)
     }
+}
 
-    fn show_cells(&self) -> Result<Answer, LineFault> {
-        if self.held.is_none() {
-            return Err(LineFault::NoPage);
-        }
+impl Held {
+    fn show_cells(&self) -> Result<Answer, Failure> {
         Ok(Answer::Cells(self.cells.clone()?))
     }
 
-    fn set_cells(&mut self, cells: Vec<u16>) -> Result<Answer, LineFault> {
-        if self.held.is_none() {
-            return Err(LineFault::NoPage);
-        }
+    fn set_cells(&mut self, cells: Vec<u16>) -> Result<Answer, Failure> {
         self.cells = cells;
         Ok(Answer::Done)
     }
 
-    fn write(&mut self, symbols: &[u16], heights: &[u16]) -> Result<Answer, LineFault> {
-        let Some(page) = &self.held else {
-            return Err(LineFault::NoPage);
-        };
-        match page.write(self.cells.as_mut_slice(), symbols, heights) {
-            Ok(()) => Ok(Answer::Done),
-            Err(fault) => Ok(Answer::Refused(fault.into())),
-        }
+    fn write(&mut self, symbols: &[u16], heights: &[u16]) -> Result<Answer, Failure> {
+        self.page
+            .write(&mut self.cells, symbols, heights)
+            .map_err(refused)?;
+        Ok(Answer::Done)
     }
 
     // Reads into buffers of the lengths that the page asks.
-    fn read(&self, heap: Global) -> Result<Answer, LineFault> {
-        self.read_into(heap, self.numbers.symbol_count(), self.numbers.cell_count())
+    fn read(&self, heap: Global) -> Result<Answer, Failure> {
+        let numbers = self.page.numbers();
+        self.read_into(heap, numbers.symbol_count(), numbers.cell_count())
     }
 
     // Reads into buffers of these lengths, of zeros.
@@ -177,24 +158,18 @@ impl Bench {
         heap: Global,
         symbol_count: usize,
         height_count: usize,
-    ) -> Result<Answer, LineFault> {
-        let Some(page) = &self.held else {
-            return Err(LineFault::NoPage);
-        };
+    ) -> Result<Answer, Failure> {
         let mut symbols = vec![in heap; 0; symbol_count]?;
         let mut heights = vec![in heap; 0; height_count]?;
-        match page.read(
-            self.cells.as_slice(),
-            symbols.as_mut_slice(),
-            heights.as_mut_slice(),
-        ) {
-            Ok((drifted, risen)) => Ok(Answer::Contents {
-                drifted,
-                risen,
-                symbols,
-                heights,
-            }),
-            Err(fault) => Ok(Answer::Refused(fault.into())),
-        }
+        let (drifted, risen) = self
+            .page
+            .read(&self.cells, &mut symbols, &mut heights)
+            .map_err(refused)?;
+        Ok(Answer::Contents {
+            drifted,
+            risen,
+            symbols,
+            heights,
+        })
     }
 }

@@ -45,15 +45,17 @@ fn script_name(rt: &HostRuntime) -> anyhow::Result<Option<String>> {
 // Answers each line up to the end of the input. Nothing says that an input ends, so the lines are counted.
 fn answer_all<R: BufRead + Drop>(rt: &HostRuntime, mut input: R) -> io::Result<()> {
     let heap = rt.alloc();
-    let mut bench = Bench::new(heap);
+    let mut bench = Bench::new();
     let mut line = Vec::new(heap);
     for _ in 0..u64::MAX {
         line.clear();
         if input.read_until(b'\n', &mut line)? == 0 {
             break;
         }
-        if let Some(answer) = bench.answer(heap, without_end(line.as_slice())) {
-            println!(rt; "{answer}")?;
+        match bench.answer(heap, without_end(line.as_slice())) {
+            Ok(Some(answer)) => println!(rt; "{answer}")?,
+            Ok(None) => {}
+            Err(failure) => println!(rt; "{failure}")?,
         }
     }
     Ok(())

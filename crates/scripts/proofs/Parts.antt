@@ -1,109 +1,129 @@
 -- Words of a line by their places.
-use Rattle.std.proofs.Common.{◌≡◌, ℕ, ◌+◌, ◌-◌, ◌<◌, ◌≤◌, true, List, [], ◌∷◌, ◌++◌, map, length, get_or, take, drop, IsErrAnd, Some, Ok, Err, codes, Option, Result, sym, refl, ap, ◌∙◌, subst, ⊎_elim, arith, length-drop, Bor}
+use Rattle.std.proofs.Common.{◌≡◌, ℕ, suc, ◌+◌, ◌-◌, ◌<◌, ◌≤◌, Bool, true, false, cond, List, [], ◌∷◌, ◌++◌, map, length, get_or, take, Some, Bor, refl, sym, ap, ◌∙◌, subst, ⊎_elim, arith, length-take-le, length-drop}
+use Rattle.std.specs.List.{slice_split, onto_first, count_by, position_or_len, before_first, after_first}
+use Rattle.std.proofs.lemmas.List.Splits.{slice_split_none, slice_split_first, length-slice_split}
+use Rattle.std.proofs.lemmas.List.Sums.{fails_before_first}
+use Rattle.std.proofs.lemmas.List.Elements.{All-from_get_or}
+use Rattle.std.proofs.lemmas.Bool.{cases_lt, false≢true}
+use Rattle.std.proofs.lemmas.List.{take_more, get_or-map, map_push, get_or-take, get_or-drop}
+use Rattle.std.proofs.lemmas.Simd.{map-map}
 use lib.ListN.{length-map}
-use Rattle.std.proofs.lemmas.List.{take_more, take_all, get_or-drop, get_or-map, map_push}
-use Rattle.std.proofs.lemmas.Bool.{cases_lt}
 use Rattle.scripts.specs.Script.{number_of}
-use Rattle.scripts.specs.Commands.{texts, part, slash_here, SlashAt, AreNumbers, Begins, Named, BadNumber, Wrong, Understood}
-use Rattle.scripts.specs.declared.command.Command.{Command}
-use Rattle.scripts.specs.declared.command.Name.{Name}
+use Rattle.scripts.specs.Commands.{texts, slash_here, AreNumbers, BadNumber, Wrong}
 use Rattle.scripts.specs.declared.command.LineFault.{LineFault}
 use Rattle.scripts.specs.declared.command.LineFault.TheVariants.{NoCommand, NoNumber, OrderForm, WriteForm, ReadForm, NoPage, NoMemory}
 
-pub length_texts : (ws : List (Bor (List ℕ))) → length (texts ws) ≡ length ws
-length_texts ws = length-map ws (λ w. w.now)
-
-pub text_at : (ws : List (Bor (List ℕ))) (i : ℕ) (d : Bor (List ℕ)) → i < length ws → get_or (texts ws) i [] ≡ (get_or ws i d).now
-text_at ws i d h = get_or-map (λ w. w.now) ws i d [] h
-
--- a line begins with the command that its first word names
-pub first_named : (ws : List (Bor (List ℕ))) (d : Bor (List ℕ)) → 0 < length ws → (name : Option Name) → Named (get_or ws 0 d).now name → (0 < length (texts ws)) × Named (get_or (texts ws) 0 []) name
-first_named ws d some name h = (omega (arith, length_texts ws), subst (λ w. Named w name) (sym (text_at ws 0 d some)) h)
-
-pub begins : (ws : List (Bor (List ℕ))) (d : Bor (List ℕ)) → 0 < length ws → (name is : Name) → name ≡ is → Named (get_or ws 0 d).now (Some name) → (0 < length (texts ws)) × Named (get_or (texts ws) 0 []) (Some is)
-begins ws d some name is same h = first_named ws d some (Some is) (subst (λ n. Named (get_or ws 0 d).now (Some n)) same h)
-
-part_more : (ws : List (List ℕ)) (a i : ℕ) → a ≤ i → i < length ws → part ws a (i + 1) ≡ part ws a i ++ get_or ws i [] ∷ []
-part_more ws a i from within =
-    let one : i + 1 - a ≡ i - a + 1 = omega arith in
-    let back : a + (i - a) ≡ i = omega arith in
-    ap (λ n. take n (drop a ws)) one
-    ∙ take_more (drop a ws) (i - a) [] (omega (arith, length-drop a ws))
-    ∙ ap (λ w. part ws a i ++ w ∷ []) (get_or-drop a ws (i - a) [] ∙ ap (λ n. get_or ws n []) back)
-
--- up to the end
-pub numbers_rest : (ws : List (Bor (List ℕ))) (a : ℕ) (ns : List ℕ) → AreNumbers (part (texts ws) a (length ws)) ns → AreNumbers (drop a (texts ws)) ns
-numbers_rest ws a ns h = ap (map number_of) (sym (take_all (length ws - a) (drop a (texts ws)) (omega (arith, length-drop a (texts ws), length_texts ws)))) ∙ h
-
-pub numbers_more : (ws : List (List ℕ)) (a i : ℕ) (ns : List ℕ) (n : ℕ) → a ≤ i → i < length ws → number_of (get_or ws i []) ≡ Some n → AreNumbers (part ws a i) ns → AreNumbers (part ws a (i + 1)) (ns ++ n ∷ [])
-numbers_more ws a i ns n from within is h =
-    ap (map number_of) (part_more ws a i from within)
-    ∙ map_push number_of (part ws a i) (get_or ws i [])
-    ∙ (λ j. h j ++ is j ∷ [])
+-- a word more
+pub numbers_more : (ws : List (Bor (List ℕ))) (d : Bor (List ℕ)) (i n : ℕ) (ns : List ℕ) → i < length ws → number_of (get_or ws i d).now ≡ Some n → AreNumbers (take i (texts ws)) ns → AreNumbers (take (i + 1) (texts ws)) (ns ++ n ∷ [])
+numbers_more ws d i n ns within is h =
+    ap (map number_of) (take_more (texts ws) i [] (omega (arith, length-map ws (λ w. w.now))))
+    ∙ map_push number_of (take i (texts ws)) (get_or (texts ws) i [])
+    ∙ (λ j. h j ++ (ap number_of (get_or-map (λ w. w.now) ws i d [] within) ∙ is) j ∷ [])
     ∙ sym (map_push Some ns n)
 
--- how many there are
-pub numbers_length : (ws : List (List ℕ)) (ns : List ℕ) → AreNumbers ws ns → length ns ≡ length ws
-numbers_length ws ns h = sym (length-map ns Some) ∙ ap length (sym h) ∙ length-map ws number_of
+-- parts of what f reads are what f reads of the parts
+module _ {X Y : Type 0} (p : Y → Bool) (f : X → Y) where
+  onto_mapped : (x : X) (parts : List (List X)) → onto_first (f x) (map (map f) parts) ≡ map (map f) (onto_first x parts)
+  onto_mapped x [] = refl
+  onto_mapped x (part ∷ parts) = refl
 
--- six numbers in a row
-pub six : (ns : List ℕ) → length ns ≡ 6 → get_or ns 0 0 ∷ get_or ns 1 0 ∷ get_or ns 2 0 ∷ get_or ns 3 0 ∷ get_or ns 4 0 ∷ get_or ns 5 0 ∷ [] ≡ ns
-six (a ∷ b ∷ c ∷ d ∷ e ∷ f ∷ []) h = refl
-six [] h = absurd (omega arith)
-six (a ∷ []) h = absurd (omega arith)
-six (a ∷ b ∷ []) h = absurd (omega arith)
-six (a ∷ b ∷ c ∷ []) h = absurd (omega arith)
-six (a ∷ b ∷ c ∷ d ∷ []) h = absurd (omega arith)
-six (a ∷ b ∷ c ∷ d ∷ e ∷ []) h = absurd (omega arith)
-six (a ∷ b ∷ c ∷ d ∷ e ∷ f ∷ g ∷ ns) h = absurd (omega arith)
+  split_mapped : (xs : List X) → slice_split p (map f xs) ≡ map (map f) (slice_split (λ x. p (f x)) xs)
+  split_mapped [] = refl
+  split_mapped (x ∷ xs) = step (p (f x)) (split_mapped xs)
+    where
+      step : (b : Bool) → slice_split p (map f xs) ≡ map (map f) (slice_split (λ y. p (f y)) xs)
+          → cond b ([] ∷ slice_split p (map f xs)) (onto_first (f x) (slice_split p (map f xs))) ≡ map (map f) (cond b ([] ∷ slice_split (λ y. p (f y)) xs) (onto_first x (slice_split (λ y. p (f y)) xs)))
+      step true e = ap (λ l. [] ∷ l) e
+      step false e = ap (onto_first (f x)) e ∙ onto_mapped x _
 
--- two numbers in a row
-pub two : (ns : List ℕ) → length ns ≡ 2 → get_or ns 0 0 ∷ get_or ns 1 0 ∷ [] ≡ ns
-two (a ∷ b ∷ []) h = refl
-two [] h = absurd (omega arith)
-two (a ∷ []) h = absurd (omega arith)
-two (a ∷ b ∷ c ∷ ns) h = absurd (omega arith)
+-- whether a list is cut, by the number of its parts
+module _ {X : Type 0} (p : X → Bool) (xs : List X) (d : X) where
+  uncut : length xs ≤ position_or_len p xs → slice_split p xs ≡ xs ∷ []
+  uncut past = slice_split_none p xs (All-from_get_or (λ x. p x ≡ false) xs d (λ i h. fails_before_first p xs i d (omega arith)))
 
--- in a write, none of the words from place a up to place b is a slash
-abbrev Unslashed : List (List ℕ) → ℕ → ℕ → Type 0
-Unslashed ws a b = (k : ℕ) → a ≤ k → k < b → Begins ws (codes "write") → slash_here (get_or ws k []) ≡ true → ⊥
+  one_part : (part : List X) → slice_split p xs ≡ part ∷ [] → (part ≡ xs) × (length xs ≤ position_or_len p xs)
+  one_part part h =
+      ⊎_elim
+      (λ cut. absurd (omega (arith, ap length h, ap length (slice_split_first p xs d cut), length-slice_split p (after_first p xs))))
+      (λ past. let e = uncut past in (cc, past))
+      (cases_lt (position_or_len p xs) (length xs))
 
--- a line that begins with another letter is no write
-pub other_command : (ws : List (List ℕ)) (name : List ℕ) (a b : ℕ) → (get_or name 0 0 ≡ 119 → ⊥) → get_or ws 0 [] ≡ name → Unslashed ws a b
-other_command ws name a b other is k from below begins slash = other (ap (λ w. get_or w 0 0) (sym is ∙ begins.1))
+-- two parts stand before and after one place
+pub record InTwo {X : Type 0} (p : X → Bool) (xs before after : List X) : Type 0 where
+  pub one : count_by p xs ≡ 1
+  pub within : position_or_len p xs < length xs
+  pub front : before ≡ before_first p xs
+  pub back : after ≡ after_first p xs
+  pub clean : length after ≤ position_or_len p after
 
--- a word among a line's words that is no number is a fault of the line
-bad_wrong : (ws : List (List ℕ)) (a b : ℕ) (fault : LineFault) → 1 ≤ a → b ≤ length ws → Unslashed ws a b → BadNumber ws a b fault → Wrong ws fault
-bad_wrong ws a b NoCommand from within clean h = absurd h
-bad_wrong ws a b (NoNumber place) from within clean h = (omega arith, omega arith, h.2, clean (place - 1) (omega arith) (omega arith))
-bad_wrong ws a b OrderForm from within clean h = absurd h
-bad_wrong ws a b WriteForm from within clean h = absurd h
-bad_wrong ws a b ReadForm from within clean h = absurd h
-bad_wrong ws a b NoPage from within clean h = absurd h
-bad_wrong ws a b NoMemory from within clean h = tt
+in_two : {X : Type 0} (p : X → Bool) (xs before after : List X) (d : X) → slice_split p xs ≡ before ∷ after ∷ [] → InTwo p xs before after
+in_two p xs before after d h =
+    ⊎_elim
+    (λ cut.
+    let e = slice_split_first p xs d cut in
+    let last : slice_split p (after_first p xs) ≡ after ∷ [] = cc in
+    let told = one_part p (after_first p xs) d after last in
+    record {
+      one = omega (arith, ap length h, length-slice_split p xs);
+      within = cut;
+      front = cc;
+      back = told.0;
+      clean = rw told.0 told.1;
+    })
+    (λ past. absurd (omega (arith, ap length h, ap length (uncut p xs d past))))
+    (cases_lt (position_or_len p xs) (length xs))
 
--- which is then answered
-pub bad_understood : (ws : List (Bor (List ℕ))) (a b : ℕ) (fault : LineFault) (r : Result Command LineFault) → IsErrAnd r (λ e. e ≡ fault) → 1 ≤ a → b ≤ length ws → Unslashed (texts ws) a b → BadNumber (texts ws) a b fault → Understood (texts ws) r
-bad_understood ws a b fault (Ok command) answered from within clean h = absurd answered
-bad_understood ws a b fault (Err e) answered from within clean h = rw answered (bad_wrong (texts ws) a b fault from (omega (arith, length_texts ws)) clean h)
+pair : {X : Type 0} (xs : List X) (d : X) → length xs ≡ 2 → xs ≡ get_or xs 0 d ∷ get_or xs 1 d ∷ []
+pair (x ∷ y ∷ []) d h = refl
+pair [] d h = absurd (omega arith)
+pair (x ∷ []) d h = absurd (omega arith)
+pair (x ∷ y ∷ z ∷ xs) d h = absurd (omega arith)
 
--- slashes, by what looking for the first one, in place p, and the next one, in place q, tells
-module _ (ws : List (List ℕ)) (p : ℕ) (from : 1 ≤ p) (before : (k : ℕ) → 1 ≤ k → k < p → slash_here (get_or ws k []) ≡ true → ⊥) where
-  pub no_slash : length ws ≤ p → (x : ℕ) → SlashAt ws x → ⊥
-  no_slash end x at = before x at.after (omega (arith, at.within)) at.is
+-- the words of a write, by the parts into which slashes cut them
+module _ (ws : List (Bor (List ℕ))) (parts items : List (Bor (List (Bor (List ℕ))))) (are : parts ≡ items) (cut : map (λ part. part.now) items ≡ slice_split (λ w. slash_here w.now) ws) where
+  cut_texts : slice_split slash_here (texts ws) ≡ map (λ part. texts part.now) parts
+  cut_texts = split_mapped slash_here (λ w. w.now) ws ∙ ap (map texts) (sym cut ∙ ap (map (λ part. part.now)) (sym are)) ∙ map-map texts (λ part. part.now) parts
 
-  module _ (within : p < length ws) (is : slash_here (get_or ws p []) ≡ true) (q : ℕ) (later : p + 1 ≤ q) where
-    pub two_slashes : q < length ws → slash_here (get_or ws q []) ≡ true → (x : ℕ) → SlashAt ws x → ⊥
-    two_slashes inside also x at = omega (arith, at.alone p (omega arith) within is, at.alone q (omega arith) inside also)
+  pub other_parts : (length parts ≡ 2 → ⊥) → count_by slash_here (texts ws) ≡ 1 → ⊥
+  other_parts h one = h (omega (arith, ap length cut_texts, length-slice_split slash_here (texts ws), length-map parts (λ part. texts part.now)))
 
-    pub one_slash : length ws ≤ q → ((k : ℕ) → p + 1 ≤ k → k < q → slash_here (get_or ws k []) ≡ true → ⊥) → SlashAt ws p
-    one_slash end between = record {
-      after = omega arith;
-      within = within;
-      is = is;
-      alone = λ k some inside too.
-          ⊎_elim
-          (λ less. absurd (before k (omega arith) less too))
-          (λ more. ⊎_elim (λ less. omega arith) (λ past. absurd (between k past (omega arith) too)) (cases_lt k (p + 1)))
-          (cases_lt k p);
-    }
+  pub two_parts : length parts ≡ 2 → (d : _) → InTwo slash_here (texts ws) (texts (get_or parts 0 d).now) (texts (get_or parts 1 d).now)
+  two_parts h d = in_two slash_here (texts ws) _ _ [] (cut_texts ∙ ap (map (λ part. texts part.now)) (pair parts d h))
+
+-- a word of a part that is no number, and no slash, is what is wrong with the line
+bad_part : (name : List ℕ) (ws part : List (List ℕ)) (skip : ℕ) → skip + length part ≤ length ws
+    → ((i : ℕ) → i < length part → (get_or ws (skip + i) [] ≡ get_or part i []) × (slash_here (get_or part i []) ≡ false))
+    → (fault : LineFault) → BadNumber (skip + 2) part fault → Wrong (name ∷ ws) fault
+bad_part name ws part skip fits at (NoNumber place) h =
+    let i = place - (skip + 2) in
+    let here : i < length part = omega arith in
+    let e : place - 1 ≡ suc (skip + i) = omega arith in
+    let same : get_or (name ∷ ws) (place - 1) [] ≡ get_or part i [] = ap (λ k. get_or (name ∷ ws) k []) e ∙ (at i here).0 in
+    (omega arith, omega arith, ap number_of same ∙ h.2, λ begins slash. false≢true (sym (at i here).1 ∙ sym (ap slash_here same) ∙ slash))
+bad_part name ws part skip fits at NoMemory h = tt
+bad_part name ws part skip fits at NoCommand h = absurd h
+bad_part name ws part skip fits at OrderForm h = absurd h
+bad_part name ws part skip fits at WriteForm h = absurd h
+bad_part name ws part skip fits at ReadForm h = absurd h
+bad_part name ws part skip fits at NoPage h = absurd h
+
+module _ (name : List ℕ) (ws before after : List (List ℕ)) (cut : InTwo slash_here ws before after) (fault : LineFault) where
+  long : length before ≡ position_or_len slash_here ws
+  long = ap length cut.front ∙ length-take-le _ ws (omega (arith, cut.within))
+
+  pub front_wrong : BadNumber 2 before fault → Wrong (name ∷ ws) fault
+  front_wrong =
+      bad_part name ws before 0 (omega (arith, long, cut.within))
+      (λ i h.
+      let e : get_or ws i [] ≡ get_or before i [] = sym (ap (λ l. get_or l i []) cut.front ∙ get_or-take _ ws i [] (omega (arith, long))) in
+      let zero : 0 + i ≡ i = omega arith in
+      (ap (λ k. get_or ws k []) zero ∙ e, ap slash_here (sym e) ∙ fails_before_first slash_here ws i [] (omega (arith, long))))
+      fault
+
+  pub back_wrong : (n : ℕ) → n ≡ length before → BadNumber (n + 3) after fault → Wrong (name ∷ ws) fault
+  back_wrong n is h =
+      let skip : n + 3 ≡ position_or_len slash_here ws + 1 + 2 = omega (arith, long) in
+      bad_part name ws after (position_or_len slash_here ws + 1) (omega (arith, ap length cut.back, cut.within, length-drop (position_or_len slash_here ws + 1) ws))
+      (λ i below. (sym (ap (λ l. get_or l i []) cut.back ∙ get_or-drop _ ws i []), fails_before_first slash_here after i [] (omega (arith, cut.clean))))
+      fault
+      (subst (λ k. BadNumber k after fault) skip h)

@@ -1,21 +1,16 @@
 -- What the words of a line ask for, and what is wrong with them where they ask for nothing.
-use Rattle.std.specs.Prelude.{◌≡◌, ℕ, ◌+◌, ◌-◌, ◌<◌, ◌≤◌, Bool, true, false, List, [], ◌∷◌, map, length, drop, Some, None, Ok, Err, vec_items, codes, Option, Result, ◌==◌, ◌≢◌, slice_index_or, slice_range}
+use Rattle.std.specs.Prelude.{◌≡◌, ℕ, ◌+◌, ◌-◌, ◌<◌, ◌≤◌, Bool, true, false, List, [], ◌∷◌, map, length, drop, Some, None, Ok, Err, vec_items, codes, Option, Result, ◌==◌, ◌≢◌, slice_index_or, count_by}
+use Rattle.std.specs.List.{before_first, after_first}
 use Rattle.std.specs.Borrow.{Bor}
 use Rattle.scripts.specs.Script.{number_of}
 use Rattle.scripts.specs.declared.command.Command.{Command}
 use Rattle.scripts.specs.declared.command.Command.TheVariants.{Order, Cells, SetCells, Write, Read, ReadInto}
-use Rattle.scripts.specs.declared.command.Name.{Name}
-use Rattle.scripts.specs.declared.command.Name.TheVariants as name
 use Rattle.scripts.specs.declared.command.LineFault.{LineFault}
 use Rattle.scripts.specs.declared.command.LineFault.TheVariants.{NoCommand, NoNumber, OrderForm, WriteForm, ReadForm, NoPage, NoMemory}
 
 -- what lent words hold
 abbrev pub texts : List (Bor (List ℕ)) → List (List ℕ)
 texts ws = map (λ w. w.now) ws
-
--- the words from place a up to place b
-abbrev pub part : List (List ℕ) → ℕ → ℕ → List (List ℕ)
-part ws a b = slice_range ws a b
 
 -- these words are numbers, and which they are
 abbrev pub AreNumbers : List (List ℕ) → List ℕ → Type 0
@@ -27,56 +22,51 @@ slash_here [] = false
 slash_here (b ∷ []) = b == 47
 slash_here (b ∷ c ∷ w) = false
 
--- after the first word there is one slash, in place p
-pub record SlashAt (ws : List (List ℕ)) (p : ℕ) : Type 0 where
-  pub after : 0 < p
-  pub within : p < length ws
-  pub is : slash_here (slice_index_or ws p []) ≡ true
-  pub alone : (k : ℕ) → 0 < k → k < length ws → slash_here (slice_index_or ws k []) ≡ true → k ≡ p
+-- after the first word there is one slash
+abbrev pub OneSlash : List (List ℕ) → Type 0
+OneSlash ws = count_by slash_here (drop 1 ws) ≡ 1
 
 -- the first word of a line is its command
 abbrev pub Begins : List (List ℕ) → List ℕ → Type 0
 Begins ws name = (0 < length ws) × (slice_index_or ws 0 [] ≡ name)
 
--- which command a word names
-abbrev pub Named : List ℕ → Option Name → Type 0
-Named w None = (w ≢ codes "order") × (w ≢ codes "cells") × (w ≢ codes "write") × (w ≢ codes "read")
-Named w (Some name.Order) = w ≡ codes "order"
-Named w (Some name.Cells) = w ≡ codes "cells"
-Named w (Some name.Write) = w ≡ codes "write"
-Named w (Some name.Read) = w ≡ codes "read"
+-- a word that is no command
+abbrev pub NoName : List ℕ → Type 0
+NoName w = (w ≢ codes "order") × (w ≢ codes "cells") × (w ≢ codes "write") × (w ≢ codes "read")
 
 -- the words of a line ask for this command
 abbrev pub Asks : List (List ℕ) → Command → Type 0
-Asks ws (Order kind columns checks rows heights drift) = Begins ws (codes "order") × AreNumbers (drop 1 ws) (kind ∷ columns ∷ checks ∷ rows ∷ heights ∷ drift ∷ [])
+Asks ws (Order kind n) = Begins ws (codes "order") × AreNumbers (drop 1 ws) (kind ∷ n.columns ∷ n.checks ∷ n.rows ∷ n.heights ∷ n.drift ∷ [])
 Asks ws Cells = Begins ws (codes "cells") × (length ws ≡ 1)
 Asks ws (SetCells cells) = Begins ws (codes "cells") × (1 < length ws) × AreNumbers (drop 1 ws) (vec_items cells)
 Asks ws (Write symbols heights) =
     Begins ws (codes "write")
-    × ((p : ℕ) × SlashAt ws p × AreNumbers (part ws 1 p) (vec_items symbols) × AreNumbers (drop (p + 1) ws) (vec_items heights))
+    × OneSlash ws
+    × AreNumbers (before_first slash_here (drop 1 ws)) (vec_items symbols)
+    × AreNumbers (after_first slash_here (drop 1 ws)) (vec_items heights)
 Asks ws Read = Begins ws (codes "read") × (length ws ≡ 1)
 Asks ws (ReadInto symbols heights) = Begins ws (codes "read") × AreNumbers (drop 1 ws) (symbols ∷ heights ∷ [])
 
--- one of the words from place a up to place b is no number, and the fault names it, counted from 1; or there was no memory
-abbrev pub BadNumber : List (List ℕ) → ℕ → ℕ → LineFault → Type 0
-BadNumber ws a b NoCommand = ⊥
-BadNumber ws a b (NoNumber place) = (a < place) × (place ≤ b) × (number_of (slice_index_or ws (place - 1) []) ≡ None)
-BadNumber ws a b OrderForm = ⊥
-BadNumber ws a b WriteForm = ⊥
-BadNumber ws a b ReadForm = ⊥
-BadNumber ws a b NoPage = ⊥
-BadNumber ws a b NoMemory = Unit {0}
+-- the fault of some words of a line, of which the first has this place, counted from 1: it names one that is no number; or there was no memory
+abbrev pub BadNumber : ℕ → List (List ℕ) → LineFault → Type 0
+BadNumber first ws (NoNumber place) = (first ≤ place) × (place < first + length ws) × (number_of (slice_index_or ws (place - first) []) ≡ None)
+BadNumber first ws NoMemory = Unit {0}
+BadNumber first ws NoCommand = ⊥
+BadNumber first ws OrderForm = ⊥
+BadNumber first ws WriteForm = ⊥
+BadNumber first ws ReadForm = ⊥
+BadNumber first ws NoPage = ⊥
 
 -- the words of a line have this fault; a write has one slash, which is not taken for a number
 abbrev pub Wrong : List (List ℕ) → LineFault → Type 0
-Wrong ws NoCommand = (0 < length ws) × Named (slice_index_or ws 0 []) None
+Wrong ws NoCommand = (0 < length ws) × NoName (slice_index_or ws 0 [])
 Wrong ws (NoNumber place) =
     (1 < place)
     × (place ≤ length ws)
     × (number_of (slice_index_or ws (place - 1) []) ≡ None)
     × (Begins ws (codes "write") → slash_here (slice_index_or ws (place - 1) []) ≢ true)
 Wrong ws OrderForm = Begins ws (codes "order") × (length ws ≢ 7)
-Wrong ws WriteForm = Begins ws (codes "write") × ((p : ℕ) → SlashAt ws p → ⊥)
+Wrong ws WriteForm = Begins ws (codes "write") × (OneSlash ws → ⊥)
 Wrong ws ReadForm = Begins ws (codes "read") × (length ws ≢ 1) × (length ws ≢ 3)
 Wrong ws NoPage = ⊥
 Wrong ws NoMemory = Unit {0}

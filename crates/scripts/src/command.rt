@@ -1,13 +1,14 @@
 // The commands of a page script, and what can be wrong with a line of one.
-ghost use Rattle.std.specs.Prelude.{◌≡◌, ℕ, ◌<◌, ◌≤◌, true, [], length, codes, MatchResult, ◌≢◌, slice_index, slice_index_or};
-ghost use Rattle.scripts.specs.Script.{words_of};
-ghost use Rattle.scripts.specs.Commands.{texts, part, slash_here, AreNumbers, BadNumber, Begins, Named, Understood, Parsed};
-ghost use Rattle.scripts.specs.declared.command.Command.TheVariants.{Order, ReadInto};
-ghost use Rattle.scripts.specs.declared.command.LineFault.TheVariants.{NoMemory};
+ghost use Rattle.std.specs.Prelude.{◌≡◌, ◌+◌, ◌<◌, ◌^◌, ◌∷◌, length, map, codes, MatchResult, IfOk, Some, None};
+ghost use Rattle.std.specs.List.{slice_split};
+ghost use Rattle.scripts.specs.Script.{words_of, number_of};
+ghost use Rattle.scripts.specs.Commands.{texts, slash_here, AreNumbers, BadNumber, Understood, Parsed};
+ghost use Rattle.scripts.specs.declared.command.LineFault.TheVariants.{NoMemory, NoNumber};
 
 use crate::words;
+use plans::numbers::Numbers;
 use std::alloc::{AllocError, AllocFailed, Global};
-use std::fmt;
+use thiserror::Error;
 
 // What a line asks for.
 #[derive(Drop)]
@@ -15,11 +16,7 @@ pub enum Command {
     // a new page of a kind
     Order {
         kind: u16,
-        columns: u16,
-        checks: u16,
-        rows: u16,
-        heights: u16,
-        drift: u16,
+        numbers: Numbers,
     },
     // the cells are shown
     Cells,
@@ -40,38 +37,24 @@ pub enum Command {
 }
 
 // Why a line cannot be carried out.
-#[derive(Clone, Copy)]
+#[derive(Clone, Copy, PartialEq, Eq, Debug, Error)]
 pub enum LineFault {
-    // the first word is no command
+    #[error("the first word is no command")]
     NoCommand,
-    // the word in this place, counted from 1, is no number
+    // the word in this place, counted from 1
+    #[error("word {0} is no number from 0 to 65535")]
     NoNumber(usize),
-    // an order has other than six numbers
+    #[error("order takes six numbers: KIND N R ROWS H D")]
     OrderForm,
-    // a write has no slash, or more than one
+    // there is no slash, or more than one
+    #[error("write takes symbols, one / and heights")]
     WriteForm,
-    // a read has other than no numbers or two
+    #[error("read takes nothing, or two numbers: NSYMBOLS NHEIGHTS")]
     ReadForm,
-    // the command needs a page, and none has been ordered
+    #[error("no page has been ordered")]
     NoPage,
-    // no memory is left for the line
+    #[error("no memory is left for this line")]
     NoMemory,
-}
-
-impl fmt::Display for LineFault {
-    fn fmt<W: fmt::Write>(&self, f: &mut fmt::Formatter<W>) -> fmt::Result {
-        match self {
-            LineFault::NoCommand => f.write_str("the first word is no command"),
-            LineFault::NoNumber(place) => write!(f, "word {place} is no number from 0 to 65535"),
-            LineFault::OrderForm => f.write_str("order takes six numbers: KIND N R ROWS H D"),
-            LineFault::WriteForm => f.write_str("write takes symbols, one / and heights"),
-            LineFault::ReadForm => {
-                f.write_str("read takes nothing, or two numbers: NSYMBOLS NHEIGHTS")
-            }
-            LineFault::NoPage => f.write_str("no page has been ordered"),
-            LineFault::NoMemory => f.write_str("no memory is left for this line"),
-        }
-    }
 }
 
 impl From<AllocError> for LineFault {
@@ -90,166 +73,115 @@ impl<T: Drop> From<AllocFailed<T>> for LineFault {
     }
 }
 
-// The commands by their names.
-#[derive(Clone, Copy)]
-enum Name {
-    Order,
-    Cells,
-    Write,
-    Read,
-}
-
-// The command that a word names.
-fn name_of(word: &[u8]) -> Option<Name>
-    ensures { Named word.now result }
-{
-    match word {
-        b"order" => Some(Name::Order),
-        b"cells" => Some(Name::Cells),
-        b"write" => Some(Name::Write),
-        b"read" => Some(Name::Read),
-        _ => None,
-    }
-}
-
 // What a line asks for, and nothing where it has no words.
 pub fn parse(heap: Global, line: &[u8]) -> Result<Option<Command>, LineFault>
     ensures { Parsed (words_of line.now) result }
 {
     let words = words::words(heap, line)?;
-    if words.is_empty() {
-        return Ok(None);
+    match words.as_slice() {
+        [] => Ok(None),
+        [name, arguments @ ..] => Ok(Some(understand(heap, name, arguments)?)),
     }
-    Ok(Some(understand(heap, words.as_slice())?))
 }
 
-// What the words of a line ask for.
-fn understand(heap: Global, words: &[&[u8]]) -> Result<Command, LineFault>
-    requires { 0 < length words.now }
-    ensures { Understood (texts words.now) result }
+// What a line asks for that begins with `name`, and goes on with `arguments`.
+fn understand(heap: Global, name: &[u8], arguments: &[&[u8]]) -> Result<Command, LineFault>
+    ensures { Understood (name.now ∷ texts arguments.now) result }
 {
-    let Some(name) = name_of(words[0]) else {
-        return Err(LineFault::NoCommand);
-    };
     match name {
-        Name::Order => order(heap, words),
-        Name::Cells => cells(heap, words),
-        Name::Write => write(heap, words),
-        Name::Read => read(heap, words),
+        b"order" => order(arguments),
+        b"cells" => cells(heap, arguments),
+        b"write" => write(heap, arguments),
+        b"read" => read(arguments),
+        _ => Err(LineFault::NoCommand),
     }
 }
 
-// The numbers that the words from `start` up to `end` are.
-fn numbers(heap: Global, words: &[&[u8]], start: usize, end: usize) -> Result<Vec<u16>, LineFault>
-    requires { (start ≤ end) × (end ≤ length words.now) }
-    ensures { MatchResult result (λ v. AreNumbers (part (texts words.now) start end) v.items) (BadNumber (texts words.now) start end) }
+// The number that the word in this place of a line is.
+fn number(place: usize, word: &[u8]) -> Result<u16, LineFault>
+    ensures { MatchResult result (λ n. number_of word.now ≡ Some n) (λ fault. (fault ≡ NoNumber place) × (number_of word.now ≡ None)) }
+{
+    words::number(word).ok_or(LineFault::NoNumber(place))
+}
+
+// The numbers that words are, of which the first has this place in the line.
+fn numbers(heap: Global, place: usize, words: &[&[u8]]) -> Result<Vec<u16>, LineFault>
+    requires { place + length words.now < 2 ^ 64 }
+    ensures { MatchResult result (λ v. AreNumbers (texts words.now) v.items) (BadNumber place (texts words.now)) }
 {
     let mut all = Vec::new(heap);
-    for i in start..end {
-        match words::number(words[i]) {
-            Some(number) => all.push(number)?,
-            None => return Err(LineFault::NoNumber(i + 1)),
-        }
+    for (i, word) in words.iter().enumerate() {
+        all.push(number(place + i, word)?)?;
     }
     Ok(all)
 }
 
-// The order of six numbers.
-fn order_of(numbers: &[u16]) -> Command
-    requires { length numbers.now ≡ 6 }
-    ensures { result ≡ Order (slice_index numbers.now 0) (slice_index numbers.now 1) (slice_index numbers.now 2) (slice_index numbers.now 3) (slice_index numbers.now 4) (slice_index numbers.now 5) }
-{
-    Command::Order {
-        kind: numbers[0],
-        columns: numbers[1],
-        checks: numbers[2],
-        rows: numbers[3],
-        heights: numbers[4],
-        drift: numbers[5],
-    }
-}
-
 // The command of a line that begins with `order`.
-fn order(heap: Global, words: &[&[u8]]) -> Result<Command, LineFault>
-    requires { Begins (texts words.now) (codes "order") }
-    ensures { Understood (texts words.now) result }
+fn order(arguments: &[&[u8]]) -> Result<Command, LineFault>
+    ensures { Understood (codes "order" ∷ texts arguments.now) result }
 {
-    if words.len() != 7 {
+    let [kind, columns, checks, rows, heights, drift] = arguments else {
         return Err(LineFault::OrderForm);
-    }
-    let numbers = numbers(heap, words, 1, words.len())?;
-    Ok(order_of(numbers.as_slice()))
+    };
+    Ok(Command::Order {
+        kind: number(2, kind)?,
+        numbers: Numbers {
+            columns: number(3, columns)?,
+            checks: number(4, checks)?,
+            rows: number(5, rows)?,
+            heights: number(6, heights)?,
+            drift: number(7, drift)?,
+        },
+    })
 }
 
 // The command of a line that begins with `cells`.
-fn cells(heap: Global, words: &[&[u8]]) -> Result<Command, LineFault>
-    requires { Begins (texts words.now) (codes "cells") }
-    ensures { Understood (texts words.now) result }
+fn cells(heap: Global, arguments: &[&[u8]]) -> Result<Command, LineFault>
+    ensures { Understood (codes "cells" ∷ texts arguments.now) result }
 {
-    if words.len() == 1 {
-        return Ok(Command::Cells);
+    match arguments {
+        [] => Ok(Command::Cells),
+        readings => Ok(Command::SetCells(numbers(heap, 2, readings)?)),
     }
-    Ok(Command::SetCells(numbers(heap, words, 1, words.len())?))
 }
 
 fn is_slash(word: &[u8]) -> bool
     ensures { result ≡ slash_here word.now }
 {
-    matches!(word, [b'/'])
+    matches!(word, b"/")
 }
 
-// The place of the first slash from `start` on, and the number of words where there is none.
-fn slash_from(words: &[&[u8]], start: usize) -> usize
-    requires { start ≤ length words.now }
-    ensures from { start ≤ result }
-    ensures within { result ≤ length words.now }
-    ensures before { (k : ℕ) → start ≤ k → k < result → slash_here (slice_index_or (texts words.now) k []) ≢ true }
-    ensures found { result < length words.now → slash_here (slice_index_or (texts words.now) result []) ≡ true }
+// The parts into which slashes cut words.
+fn parts<'a, 'b>(heap: Global, words: &'a [&'b [u8]]) -> Result<Vec<&'a [&'b [u8]]>, AllocError>
+    ensures { IfOk result (λ v. map (λ part. part.now) v.items ≡ slice_split (λ word. slash_here word.now) words.now) }
 {
-    for i in start..words.len() {
-        if is_slash(words[i]) {
-            return i;
-        }
-    }
-    words.len()
+    words.split(|word| is_slash(word)).collect(heap)
 }
 
 // The command of a line that begins with `write`.
-fn write(heap: Global, words: &[&[u8]]) -> Result<Command, LineFault>
-    requires { Begins (texts words.now) (codes "write") }
-    ensures { Understood (texts words.now) result }
+fn write(heap: Global, arguments: &[&[u8]]) -> Result<Command, LineFault>
+    ensures { Understood (codes "write" ∷ texts arguments.now) result }
 {
-    let slash = slash_from(words, 1);
-    if slash == words.len() || slash_from(words, slash + 1) < words.len() {
+    let parts = parts(heap, arguments)?;
+    let [symbols, heights] = parts.as_slice() else {
         return Err(LineFault::WriteForm);
-    }
-    let symbols = numbers(heap, words, 1, slash)?;
-    let heights = numbers(heap, words, slash + 1, words.len())?;
-    Ok(Command::Write { symbols, heights })
-}
-
-// The reading into buffers of two lengths.
-fn read_into(lengths: &[u16]) -> Command
-    requires { length lengths.now ≡ 2 }
-    ensures { result ≡ ReadInto (slice_index lengths.now 0) (slice_index lengths.now 1) }
-{
-    Command::ReadInto {
-        symbols: lengths[0],
-        heights: lengths[1],
-    }
+    };
+    Ok(Command::Write {
+        symbols: numbers(heap, 2, symbols)?,
+        heights: numbers(heap, symbols.len() + 3, heights)?,
+    })
 }
 
 // The command of a line that begins with `read`.
-fn read(heap: Global, words: &[&[u8]]) -> Result<Command, LineFault>
-    requires { Begins (texts words.now) (codes "read") }
-    ensures { Understood (texts words.now) result }
+fn read(arguments: &[&[u8]]) -> Result<Command, LineFault>
+    ensures { Understood (codes "read" ∷ texts arguments.now) result }
 {
-    if words.len() == 1 {
-        return Ok(Command::Read);
+    match arguments {
+        [] => Ok(Command::Read),
+        [symbols, heights] => Ok(Command::ReadInto {
+            symbols: number(2, symbols)?,
+            heights: number(3, heights)?,
+        }),
+        _ => Err(LineFault::ReadForm),
     }
-    if words.len() != 3 {
-        return Err(LineFault::ReadForm);
-    }
-    let lengths = numbers(heap, words, 1, words.len())?;
-    Ok(read_into(lengths.as_slice()))
 }

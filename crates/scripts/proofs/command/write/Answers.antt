@@ -1,54 +1,30 @@
-use Rattle.std.proofs.Common.{◌+◌, ◌<◌, length, arith}
-use Rattle.scripts.specs.Commands.{texts}
-use Rattle.scripts.proofs.Parts.{length_texts, numbers_rest, bad_understood, no_slash, two_slashes, one_slash}
+use Rattle.std.proofs.Common.{sym, arith, rules}
+use lib.ListN.{length-map}
+use Rattle.std.proofs.lemmas.Result.{err_from_is_err_and}
+use Rattle.scripts.proofs.Parts.{other_parts, two_parts, front_wrong, back_wrong}
 use Rattle.scripts.proofs.command.write.Goals as goal
-use Rattle.scripts.proofs.command.write.Goals.{then-slash-words-via-then-slash-words, then-slash-words-via-else-slash-words+then-slash_from-words}
+use Rattle.scripts.proofs.command.write.Goals.{in_default-via-then-as_slice-lt2, in_default-via-else-as_slice-lt2+else-this-lt3}
 
-pub slash_from-slash-requires : goal.slash_from-slash-requires
-slash_from-slash-requires c = omega (arith, length_texts c.args.words.now, c.requires.0)
+pub returns-in_default : goal.returns-in_default
+returns-in_default c = (
+  search rules,
+  other_parts c.args.arguments.now _ _ c.as_slice.ensures.value c.in_ok-parts.ensures
+      (λ two. elim c.in_default.branch [ in_default-via-then-as_slice-lt2 w ↦ grind arith | in_default-via-else-as_slice-lt2+else-this-lt3 w ↦ grind arith ]),
+)
 
-pub returns-then-slash-words : goal.returns-then-slash-words
-returns-then-slash-words c =
-    let ws = c.args.words.now in
-    let long = length_texts ws in
-    let one = c.slash_from-slash.ensures in (
-      c.requires,
-      elim c.then-slash-words.branch [
-        | then-slash-words-via-then-slash-words w ↦ no_slash (texts ws) _ one.from one.before (omega (arith, w.if-slash-words.true))
-        | then-slash-words-via-else-slash-words+then-slash_from-words w ↦
-            let inside : c.slash_from-slash.result < length ws = omega (arith, w.if-slash-words.false, one.within) in
-            let next = w.slash_from.ensures in
-            let also = w.if-slash_from-words.true in
-            two_slashes (texts ws) _ one.from one.before (omega arith) (one.found inside) _ next.from (omega arith) (next.found also)
-      ],
-    )
+pub returns-in_err-numbers : goal.returns-in_err-numbers
+returns-in_err-numbers c =
+    let p = err_from_is_err_and c.from_residual-in_err-numbers.result c.from_residual-in_err-numbers.ensures.1 in
+    let cut = two_parts c.args.arguments.now _ _ c.as_slice.ensures.value c.in_ok-parts.ensures (omega arith) _ in
+    rw (p.1, p.2) (front_wrong _ _ _ _ cut _ c.in_err-numbers.ensures)
 
-pub returns-in_err-symbols : goal.returns-in_err-symbols
-returns-in_err-symbols c =
-    let ws = c.args.words.now in
-    bad_understood ws 1 c.slash_from-slash.result _ _ c.from_residual.ensures.1 (omega arith) c.slash_from-slash.ensures.within
-    (λ k from below begins. c.slash_from-slash.ensures.before k from below)
-    c.in_err-symbols.ensures
-
-pub returns-in_err-heights : goal.returns-in_err-heights
-returns-in_err-heights c =
-    let ws = c.args.words.now in
-    bad_understood ws (c.slash_from-slash.result + 1) (length ws) _ _ c.from_residual-in_err-heights.ensures.1 (omega arith) (omega arith)
-    (λ k from below begins. c.slash_from.ensures.before k from (omega (arith, c.if-slash_from-words.false)))
-    c.in_err-heights.ensures
+pub returns-in_err-numbers-2 : goal.returns-in_err-numbers-2
+returns-in_err-numbers-2 c =
+    let p = err_from_is_err_and c.from_residual-in_err-numbers-2.result c.from_residual-in_err-numbers-2.ensures.1 in
+    let cut = two_parts c.args.arguments.now _ _ c.as_slice.ensures.value c.in_ok-parts.ensures (omega arith) _ in
+    rw (p.1, p.2) (back_wrong _ _ _ _ cut _ _ (sym (length-map _ (λ w. w.now))) c.in_err-numbers-2.ensures)
 
 pub returns : goal.returns
 returns c =
-    let ws = c.args.words.now in
-    let long = length_texts ws in
-    let one = c.slash_from-slash.ensures in
-    let next = c.slash_from.ensures in
-    let inside : c.slash_from-slash.result < length ws = omega (arith, c.if-slash-words.false, one.within) in (
-      c.requires,
-      (
-        c.slash_from-slash.result,
-        one_slash (texts ws) _ one.from one.before (omega arith) (one.found inside) _ next.from (omega (arith, c.if-slash_from-words.false)) next.before,
-        c.in_ok-symbols.ensures,
-        numbers_rest ws (c.slash_from-slash.result + 1) _ c.in_ok-heights.ensures,
-      ),
-    )
+    let cut = two_parts c.args.arguments.now _ _ c.as_slice.ensures.value c.in_ok-parts.ensures (omega arith) _ in
+    (search rules, cut.one, rw (sym cut.front) c.in_ok-numbers.ensures, rw (sym cut.back) c.in_ok-numbers-2.ensures)
