@@ -26,6 +26,7 @@ value_grows : (v : ℕ) (ds : List ℕ) → v ≤ fold next_value v ds
 value_grows v [] = omega arith
 value_grows v (d ∷ ds) = omega (arith, value_grows (next_value v d) ds)
 
+-- what that comes to: nothing where a byte is no digit or the number is too large
 abbrev answer : ℕ → List ℕ → Option ℕ
 answer v ds = cond (list_all is_ascii_digit ds && leb (fold next_value v ds) 65535) (Some (fold next_value v ds)) None
 
@@ -44,6 +45,7 @@ module _ (E : Type 0) {F : Type 0} (g : Mut F (ℕ × (Bor ℕ × Unit {0})) (Op
   abbrev turn : F × ℕ → Bor ℕ → F × ℕ → Type 0
   turn = TryFoldTurn {E = E} g (λ s r. s ≡ continue_value r)
 
+  -- the digits that were gone through count no more
   read_through : (xs : List (Bor ℕ)) (rest : List ℕ) (p q : F × ℕ) → FoldsTo turn p xs q → read_on p.1 (map (λ x. x.now) xs ++ rest) ≡ read_on q.1 rest
   read_through [] rest p q h = ap (λ z. read_on z.1 rest) h
   read_through (x ∷ xs) rest p q h = rw (sym (call _ _ _ x _ h.1.1) ∙ h.1.2) (read_through xs rest h.0 q h.2)
