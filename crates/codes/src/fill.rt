@@ -80,86 +80,76 @@ fn locator<R: Ring>(ring: &R, points: &[u16]) -> Coefficients
 }
 
 // In each lane, one step of Horner's rule: point × sum + term.
-fn horner_step<R: Ring>(
-    ring: &R,
-    points: &Lanes,
-    sums: &Lanes,
-    terms: &Lanes,
-    count: usize,
-) -> Lanes
-    requires { count ≤ 64 }
-    ensures { Updated count (λ k. (R.Ring.ops ring.now).add ((R.Ring.ops ring.now).mul (slice_index points.now k) (slice_index sums.now k)) (slice_index terms.now k)) (replicate 64 0) result }
+fn horner_step<R: Ring>(ring: &R, points: &[u16], sums: &Lanes, terms: &Lanes) -> Lanes
+    requires { length points.now ≤ 64 }
+    ensures { Updated (length points.now) (λ k. (R.Ring.ops ring.now).add ((R.Ring.ops ring.now).mul (slice_index points.now k) (slice_index sums.now k)) (slice_index terms.now k)) (replicate 64 0) result }
 {
     let mut next = [0; LANES];
-    for (k, sum) in next[..count].iter_mut().enumerate() {
-        *sum = ring.add(ring.mul(points[k], sums[k]), terms[k]);
+    for (k, point) in points.iter().enumerate() {
+        next[k] = ring.add(ring.mul(*point, sums[k]), terms[k]);
     }
     next
 }
 
 // The coefficients of the locator without the factor of each point, by rising degree; a lane for each point.
-fn quotients<R: Ring>(ring: &R, points: &Lanes, locator: &Coefficients, count: usize) -> [Lanes; 64]
-    requires { count ≤ 64 }
-    ensures { Tabled count count (λ j k. nested (R.Ring.ops ring.now) (slice_index points.now k) (λ i. slice_index locator.now i) (j + 1)) result }
+fn quotients<R: Ring>(ring: &R, points: &[u16], locator: &Coefficients) -> [Lanes; 64]
+    requires { length points.now ≤ 64 }
+    ensures { Tabled (length points.now) (length points.now) (λ j k. nested (R.Ring.ops ring.now) (slice_index points.now k) (λ i. slice_index locator.now i) (j + 1)) result }
 {
     let mut table = [[0; LANES]; 64];
     let mut last = [0; LANES];
-    for (j, quotient) in table[..count].iter_mut().enumerate() {
-        last = horner_step(ring, points, &last, &[locator[j]; LANES], count);
+    for (j, quotient) in table[..points.len()].iter_mut().enumerate() {
+        last = horner_step(ring, points, &last, &[locator[j]; LANES]);
         *quotient = last;
     }
     table
 }
 
 // The value of each lane's polynomial, its highest power first, at the lane's point.
-fn values<R: Ring>(ring: &R, points: &Lanes, table: &[Lanes; 64], count: usize) -> Lanes
-    requires { count ≤ 64 }
-    ensures { (k : ℕ) → k < count → slice_index result k ≡ nested (R.Ring.ops ring.now) (slice_index points.now k) (λ j. entry table.now j k) count }
+fn values<R: Ring>(ring: &R, points: &[u16], table: &[Lanes; 64]) -> Lanes
+    requires { length points.now ≤ 64 }
+    ensures { (k : ℕ) → k < length points.now → slice_index result k ≡ nested (R.Ring.ops ring.now) (slice_index points.now k) (λ j. entry table.now j k) (length points.now) }
 {
     let mut sums = [0; LANES];
-    for terms in &table[..count] {
-        sums = horner_step(ring, points, &sums, terms, count);
+    for terms in &table[..points.len()] {
+        sums = horner_step(ring, points, &sums, terms);
     }
     sums
 }
 
 // In each lane, minus one over point × value.
-fn weights<F: Field>(field: &F, points: &Lanes, values: &Lanes, count: usize) -> Lanes
-    requires { count ≤ 64 }
-    ensures { Updated count (λ k. (F.Ring.ops field.now).neg (F.Field.inv field.now ((F.Ring.ops field.now).mul (slice_index points.now k) (slice_index values.now k)))) (replicate 64 0) result }
+fn weights<F: Field>(field: &F, points: &[u16], values: &Lanes) -> Lanes
+    requires { length points.now ≤ 64 }
+    ensures { Updated (length points.now) (λ k. (F.Ring.ops field.now).neg (F.Field.inv field.now ((F.Ring.ops field.now).mul (slice_index points.now k) (slice_index values.now k)))) (replicate 64 0) result }
 {
     let mut weights = [0; LANES];
-    for (k, weight) in weights[..count].iter_mut().enumerate() {
-        *weight = field.neg(field.inverse(field.mul(points[k], values[k])));
+    for (k, point) in points.iter().enumerate() {
+        weights[k] = field.neg(field.inverse(field.mul(*point, values[k])));
     }
     weights
 }
 
 // In each lane, a product.
-fn lane_products<R: Ring>(ring: &R, xs: &Lanes, ys: &Lanes, count: usize) -> Lanes
-    requires { count ≤ 64 }
-    ensures { Updated count (λ k. (R.Ring.ops ring.now).mul (slice_index xs.now k) (slice_index ys.now k)) (replicate 64 0) result }
+fn lane_products<R: Ring>(ring: &R, xs: &[u16], ys: &Lanes) -> Lanes
+    requires { length xs.now ≤ 64 }
+    ensures { Updated (length xs.now) (λ k. (R.Ring.ops ring.now).mul (slice_index xs.now k) (slice_index ys.now k)) (replicate 64 0) result }
 {
     let mut products = [0; LANES];
-    for (k, product) in products[..count].iter_mut().enumerate() {
-        *product = ring.mul(xs[k], ys[k]);
+    for (k, x) in xs.iter().enumerate() {
+        products[k] = ring.mul(*x, ys[k]);
     }
     products
 }
 
 // The quotients, highest degree first, times their weights.
-fn weighted<R: Ring>(
-    ring: &R,
-    weights: &Lanes,
-    quotients: &[Lanes; 64],
-    count: usize,
-) -> [Lanes; 64]
-    requires { count ≤ 64 }
-    ensures { Tabled count count (λ s k. (R.Ring.ops ring.now).mul (slice_index weights.now k) (entry quotients.now (count - 1 - s) k)) result }
+fn weighted<R: Ring>(ring: &R, weights: &[u16], quotients: &[Lanes; 64]) -> [Lanes; 64]
+    requires { length weights.now ≤ 64 }
+    ensures { Tabled (length weights.now) (length weights.now) (λ s k. (R.Ring.ops ring.now).mul (slice_index weights.now k) (entry quotients.now (length weights.now - 1 - s) k)) result }
 {
+    let count = weights.len();
     let mut table = [[0; LANES]; 64];
     for (s, fillers) in table[..count].iter_mut().enumerate() {
-        *fillers = lane_products(ring, weights, &quotients[count - 1 - s], count);
+        *fillers = lane_products(ring, weights, &quotients[count - 1 - s]);
     }
     table
 }
@@ -169,13 +159,13 @@ fn fill_table<F: Field>(field: &F, columns: &[u16]) -> [Lanes; 64]
     requires { length columns.now ≤ 64 }
     ensures { Tabled (length columns.now) (length columns.now) (filler_of (F.Ring.ops field.now) (F.Field.inv field.now) (F.Field.points field.now) columns.now) result }
 {
-    let count = columns.len();
-    let points = points_of(field, columns);
-    let locator = locator(field, &points[..count]);
-    let quotients = quotients(field, &points, &locator, count);
-    let values = values(field, &points, &quotients, count);
-    let weights = weights(field, &points, &values, count);
-    weighted(field, &weights, &quotients, count)
+    let all = points_of(field, columns);
+    let points = &all[..columns.len()];
+    let locator = locator(field, points);
+    let quotients = quotients(field, points, &locator);
+    let values = values(field, points, &quotients);
+    let weights = weights(field, points, &values);
+    weighted(field, &weights[..columns.len()], &quotients)
 }
 
 impl<'a, F: Field> Filler<'a, F> {

@@ -1,4 +1,4 @@
-use Rattle.std.proofs.Common.{◌≡◌, ◌<◌, [], get_or, ap, ◌∙◌, arith}
+use Rattle.std.proofs.Common.{◌≡◌, ◌<◌, [], length, get_or, ap, ◌∙◌, arith}
 use Rattle.std.proofs.lemmas.List.{length-take, get_or-take}
 use Rattle.basics.proofs.Updating.{get_d_zeros}
 use Rattle.fields.specs.Rings.{entry}
@@ -13,12 +13,12 @@ loop-terms-init g c = λ k h. get_d_zeros 64 k
 
 pub loop-terms-preserved : goal.loop-terms-preserved
 loop-terms-preserved g c =
-    let i = c.loop-terms.terms-index in let z = length-take c.args.count c.args.table.now in let h : i < c.args.count = omega arith in
-    let e = get_or-take c.args.count c.args.table.now i [] h in
+    let i = c.loop-terms.terms-index in let z = length-take (length c.args.points.now) c.args.table.now in let h : i < (length c.args.points.now) = omega arith in
+    let e = get_or-take (length c.args.points.now) c.args.table.now i [] h in
     λ k h. rw (← e) (lanes c.requires c.horner_step-sums.ensures k h) ∙ nested_more _ _ _ _ _ (c.loop-terms.invariant k h)
 
 pub returns : goal.returns
 returns g c =
-    let z = length-take c.args.count c.args.table.now in
-    let e : c.loop-terms.terms-index ≡ c.args.count = omega (arith, c.requires) in
+    let z = length-take (length c.args.points.now) c.args.table.now in
+    let e : c.loop-terms.terms-index ≡ (length c.args.points.now) = omega (arith, c.requires) in
     λ k h. c.loop-terms.invariant k h ∙ ap (nested (g.R.Ring.ops c.args.ring.now) (get_or c.args.points.now k 0) (λ j. entry c.args.table.now j k)) e
