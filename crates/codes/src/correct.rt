@@ -67,6 +67,7 @@ struct Damage {
 }
 
 // What stands against correcting.
+// Filling has the same tests of width and length: shared, three comparisons would need a clause longer than they are.
 fn check(
     order: u16,
     width: usize,
@@ -119,6 +120,7 @@ pub fn flags(marked: &[u16]) -> [bool; 256]
 }
 
 // The product of 1 − a z over the points a of the flagged columns.
+// By flags, and not by a list of points as in filling, since more columns may be flagged than there are lanes.
 fn locator<F: Field>(field: &F, columns: &[bool]) -> Coefficients
     requires { length columns.now ≤ 256 }
     ensures { (j : ℕ) → j < 65 → slice_index result j ≡ product (F.Ring.ops field.now) (length columns.now) (λ k. get_or columns.now k false) (F.Field.points field.now) j }
