@@ -1,5 +1,5 @@
 -- A loop over the places of a list, from the first on.
-use Rattle.std.proofs.Common.{◌≡◌, ℕ, zero, suc, ◌+◌, ◌<◌, ◌≤◌, min, ◌≢◌, List, length, get_or, set, replicate, sym, refl, ap, ◌∙◌, subst, inl, inr, arith, length-set, get_or-set_other, get_or-set_same}
+use Rattle.std.proofs.Common.{◌≡◌, ℕ, zero, suc, ◌+◌, ◌<◌, ◌≤◌, ◌≢◌, List, length, get_or, set, replicate, sym, refl, ap, ◌∙◌, subst, inl, inr, arith, length-set, get_or-set_other, get_or-set_same}
 use native.Mathlib.Decide.{ℕ_discrete}
 use denote.Param.Members.{Mut, Called}
 use Rattle.std.specs.Array.{IsFromFnResult, IsFromFnResultFrom}
@@ -23,14 +23,6 @@ module _ (g : ℕ → ℕ) (xs : List ℕ) where
       new : (l : ℕ) → l < n + 1 → l < length xs → Dec (l ≡ n) → get_or (set zs n y) l 0 ≡ g l
       new l k m (yes p) = let i = u.long in rw p (get_or-set_same zs n y 0 (omega arith) ∙ e)
       new l k m (no p) = let ne : l ≢ n = p in rw get_or-set_other (u.new l (omega arith) m)
-
-  -- no place is left
-  pub updated_all : (n m : ℕ) (zs : List ℕ) → m ≡ min n (length xs) → Updated m g xs zs → Updated n g xs zs
-  updated_all n m zs e u = record {
-    long = u.long;
-    new = λ l h k. u.new l (omega arith) k;
-    old = λ l h. u.old l (omega arith);
-  }
 
 -- a list of zeros
 pub get_d_zeros : (n l : ℕ) → ◌≡◌ {A = ℕ} (get_or (replicate n 0) l 0) 0

@@ -16,10 +16,6 @@ module _ {o : RingOps} (l : Solid o) where
   nested_turned x zero c i = ap (λ t. o.add t (c 0)) (mul_zero l x) ∙ zero_add l (c 0) (i 0 (omega arith)) ∙ sym (turned_first l x c (i 0 (omega arith)))
   nested_turned x (suc n) c i = ap (λ t. o.add (o.mul x t) (c (suc n))) (nested_turned x n c (λ j h. i j (omega arith))) ∙ sym (turned_more l n x c (i (suc n) (omega arith)))
 
-  pub nested_in : (x n : ℕ) (c : ℕ → ℕ) → nested o x c (suc n) < o.order
-  unfolding nested
-  nested_in x n c = l.add_in _ _
-
 pub nested_same : (o : RingOps) (x n : ℕ) (b c : ℕ → ℕ) → ((j : ℕ) → j < n → b j ≡ c j) → nested o x b n ≡ nested o x c n
 unfolding nested
 nested_same o x zero b c e = refl

@@ -17,9 +17,6 @@ tabled_more w g table n row t h r = record { long = simp length-set (omega arith
     at i j a b (yes p) = rw p (ap (λ (x : List ℕ). get_or x j 0) (get_or-set_same table n row [] h) ∙ r j b)
     at i j a b (no p) = ap (λ (x : List ℕ). get_or x j 0) (get_or-set_other table n i row [] p) ∙ t.is i j (omega arith) b
 
-pub tabled_end : {w m n : ℕ} {g : ℕ → ℕ → ℕ} {table : List (List ℕ)} → m ≡ n → Tabled m w g table → Tabled n w g table
-tabled_end e t = record { long = omega (arith, t.long); is = λ i j h. t.is i j (omega arith) }
-
 -- a row that was made lane by lane
 pub lanes : {w : ℕ} {g : ℕ → ℕ} {row : List ℕ} → w ≤ 64 → Updated w g (replicate 64 0) row → (j : ℕ) → j < w → get_or row j 0 ≡ g j
 lanes few u j h = u.new j h (omega arith)
