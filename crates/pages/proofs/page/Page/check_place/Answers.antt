@@ -11,5 +11,4 @@ returns g c =
     record {
       fault = search rules;
       inside = omega (arith, mul-add-lt c.args.row m.columns c.args.column m.rows row column, c.in_ok-check_cells.ensures.size);
-      ranges = search rules;
     }
