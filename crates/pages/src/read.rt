@@ -1,7 +1,7 @@
 // The calls read and scrub: what the cells decode to, or why they are refused.
 ghost use Rattle.std.specs.Prelude.{◌≡◌, ℕ, ◌+◌, ◌-◌, ◌*◌, ◌/◌, ◌%◌, ◌<◌, ◌≤◌, not, ◌&&◌, nat_le, nat_lt, length, if◌then◌else◌, IfSome, IfOk, OnOk, slice_index};
 ghost use Rattle.basics.specs.Checks.{check, verdict, fault_of, lowest};
-ghost use Rattle.basics.specs.Lists.{Updated, row_of};
+ghost use Rattle.basics.specs.Lists.{Updated};
 ghost use Rattle.algebra.specs.Rows.{among};
 ghost use Rattle.codes.specs.Correct.{Flagged};
 ghost use Rattle.rules.specs.Pages.{tabled, q, n, cell_of, symbol_count, cell_count};
@@ -19,6 +19,7 @@ use fields::{Field, Ring};
 use rules::fault::PageFault;
 
 // The cells of a page as they read, and which columns are marked.
+// The levels stand in a buffer beside it: were that a part of it, each call that fills it would have to say what stays.
 #[derive(Drop)]
 struct Readings<'a, F: Field> {
     page: &'a Page<F>,
@@ -123,27 +124,19 @@ impl<'a, F: Field + Drop> Readings<'a, F> {
         Ok(())
     }
 
-    // What is wrong with the drifts of row k, whose symbols were corrected.
-    fn check_row(&self, symbols: &[u16], k: usize) -> Result<(), PageFault>
-        requires symbols { length symbols.now ≡ cell_count (of_page self.now) }
-        requires row { k < self.now.page.now.plan.numbers.rows }
-        ensures { result ≡ verdict (row_drift (of_page self.now) (seen self.now).marking (seen self.now).cells symbols.now k) }
-    {
-        self.check_drift(
-            k as u16,
-            self.page.row(self.cells, k),
-            self.page.row(symbols, k),
-        )
-    }
-
     // The lowest row, of those that were corrected, whose drifts do not fit.
     fn check_drifts(&self, symbols: &[u16], rows: usize) -> Result<(), PageFault>
         requires symbols { length symbols.now ≡ cell_count (of_page self.now) }
         requires rows { rows ≤ self.now.page.now.plan.numbers.rows }
         ensures { result ≡ verdict (lowest 0 rows (row_drift (of_page self.now) (seen self.now).marking (seen self.now).cells symbols.now)) }
     {
-        for k in 0..rows {
-            self.check_row(symbols, k)?;
+        let columns = self.page.numbers().columns as usize;
+        let pairs = self
+            .cells
+            .chunks_exact(columns)
+            .zip(symbols.chunks_exact(columns));
+        for (k, (readings, symbols)) in pairs.take(rows).enumerate() {
+            self.check_drift(k as u16, readings, symbols)?;
         }
         Ok(())
     }
@@ -248,15 +241,6 @@ impl<F: Field + Drop> Page<F> {
         ensures { result ≡ rows_before (over self.now) lost }
     {
         lost.unwrap_or(self.plan.numbers().rows as usize)
-    }
-
-    // Row k of the cells, or of as many symbols.
-    fn row<'b>(&self, cells: &'b [u16], k: usize) -> &'b [u16]
-        requires { k * self.now.plan.numbers.columns + self.now.plan.numbers.columns ≤ length cells.now }
-        ensures { result.now ≡ row_of self.now.plan.numbers.columns k cells.now }
-    {
-        let columns = self.plan.numbers().columns as usize;
-        &cells[k * columns..k * columns + columns]
     }
 
     // By how much a reading stands above a level of this symbol.

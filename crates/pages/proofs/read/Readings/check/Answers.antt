@@ -1,4 +1,4 @@
-use Rattle.std.proofs.Common.{ℕ, length, Err, sym, ap, ◌∙◌}
+use Rattle.std.proofs.Common.{ℕ, length, Err, ap, ◌∙◌}
 use Rattle.std.proofs.lemmas.Result.{err_from_is_err_and}
 use Rattle.basics.specs.Checks.{verdict, lowest}
 use Rattle.basics.proofs.Checking.{loop_stops, loop_goes_on, loop_ends}
