@@ -57,6 +57,17 @@ module _ {F : Type 0} where
   pub lowest_all : (at : ℕ → Option F) (m i : ℕ) → m ≤ i → lowest i (m - i) at ≡ None
   lowest_all at m i h = let z : m - i ≡ 0 = omega arith in ap (λ k. lowest i k at) z
 
+  -- a loop over m places that hands the first fault on, where the places from i on decide: it stops at i, goes on, or has come to the end
+  module _ (at : ℕ → Option F) (m i : ℕ) (left : lowest 0 m at ≡ lowest i (m - i) at) where
+    pub loop_stops : (f : F) (r : Result (Unit {0}) F) → i < m → Err f ≡ verdict (at i) → r ≡ Err f → r ≡ verdict (lowest 0 m at)
+    loop_stops f r h w e = e ∙ ap verdict (sym (left ∙ lowest_stop at m i f h (some_from_verdict (at i) f w)))
+
+    pub loop_goes_on : i < m → Ok tt ≡ verdict (at i) → lowest 0 m at ≡ lowest (i + 1) (m - (i + 1)) at
+    loop_goes_on h w = left ∙ lowest_more at m i h (none_from_verdict (at i) w)
+
+    pub loop_ends : m ≤ i → Ok tt ≡ verdict (lowest 0 m at)
+    loop_ends h = ap verdict (sym (left ∙ lowest_all at m i h))
+
   -- checks that agree at every place
   pub lowest_same : (at on : ℕ → Option F) (m i : ℕ) → ((k : ℕ) → i ≤ k → k < i + m → at k ≡ on k) → lowest i m at ≡ lowest i m on
   lowest_same at on zero i h = refl

@@ -1,6 +1,8 @@
 -- What opening an image comes to, and what an opened one gives.
 use Rattle.std.specs.Prelude.{◌≡◌, ℕ, not, Option, ◌==◌, nat_le}
 use Rattle.basics.specs.Checks.{check, ◌or_else◌}
+use Rattle.fields.specs.declared.Field as field
+use Rattle.fields.specs.declared.Ring as ring
 use Rattle.fields.specs.declared.kind.KindField.{KindField}
 use Rattle.fields.specs.Numbered.{number_of}
 use Rattle.rules.specs.Pages.{Setup}
@@ -14,7 +16,7 @@ use Rattle.images.specs.Format.{cell_count}
 use Rattle.images.specs.Opening.{numbers_in, marking_in}
 
 -- the page is the one that the bytes show
-pub record Shows (at : ℕ → ℕ) (page : Page KindField) : Type 0 where
+pub record Shows {f : field.Ghosts KindField} {r : ring.Ghosts KindField} (at : ℕ → ℕ) (page : Page KindField f r) : Type 0 where
   pub kind : number_of page.field ≡ at 5
   pub numbers : page.plan.numbers ≡ numbers_in at
   pub marked : marking page.plan ≡ marking_in at

@@ -1,16 +1,16 @@
 // A page over any field: ordering it, and the calls on it.
-ghost use Rattle.std.specs.Prelude.{◌≡◌, ℕ, ◌+◌, ◌-◌, ◌*◌, ◌/◌, ◌%◌, ◌<◌, ◌≤◌, cond, [], length, replicate, IfOk, OnOk, slice_index};
+ghost use Rattle.std.specs.Prelude.{◌≡◌, ℕ, ◌+◌, ◌-◌, ◌*◌, ◌/◌, ◌%◌, ◌<◌, ◌≤◌, [], nat_le, length, IfOk, OnOk, slice_index};
 ghost use Rattle.std.specs.List.{range_with_len};
-ghost use Rattle.basics.specs.Checks.{verdict, fault_of, ◌or_else◌, lowest};
+ghost use Rattle.basics.specs.Checks.{check, verdict, fault_of, ◌or_else◌, lowest};
 ghost use Rattle.basics.specs.Lists.{Updated};
 ghost use Rattle.fields.specs.Numbered.{number_of};
 ghost use Rattle.codes.specs.Fill.{FilledRows};
 ghost use Rattle.plans.specs.Orders.{order_fault, Ranges, told_order};
 ghost use Rattle.plans.specs.Marks.{marking_fault};
-ghost use Rattle.rules.specs.Pages.{q, cell_count, symbol_count};
+ghost use Rattle.rules.specs.Pages.{q, n, cell_count, symbol_count, message_row, message_column};
 ghost use Rattle.rules.specs.Calls.{Step, event, numbers_fault, handed, buffers_fault, symbol_fault, height_fault, fault, write as Write};
+ghost use Rattle.rules.specs.declared.fault.PageFault.TheVariants.{Symbol, Height};
 ghost use Rattle.rules.specs.Views.{marking, state, buffers, answered, kind_fault, FitsWrite, laid_entry, level_at};
-ghost use Rattle.pages.specs.Views.{over};
 
 use codes::fill::fill_rows;
 use fields::{Field, KindField, Ring};
@@ -18,15 +18,19 @@ use plans::fault::{MarkingFault, OrderFault};
 use plans::numbers::Numbers;
 use plans::plan::Plan;
 use rules::fault::{Buffer, PageFault};
+use std::array;
 
-// A page holds its field, and beside it its numbers and its marking.
+// A page holds its field, and beside it its numbers, which fit the field, and its marking.
 #[derive(Drop)]
-pub struct Page<F> {
+pub struct Page<F: Field> {
     pub(crate) field: F,
     pub(crate) plan: Plan,
+    pub ghost ranges: { Ranges (F.Ring.ops field).order plan.numbers },
 }
 
 impl<F: Field + Drop> Page<F> {
+    ghost use Rattle.pages.specs.Views.{over};
+
     // A page with no column marked, where its numbers fit its field.
     pub fn order(field: F, numbers: Numbers) -> Result<Page<F>, OrderFault>
         ensures fault { fault_of result ≡ order_fault (F.Ring.ops field).order numbers }
@@ -73,7 +77,7 @@ impl<F: Field + Drop> Page<F> {
 
     // The checks of an order on the page's own numbers.
     pub fn check(&self) -> Result<(), PageFault>
-        ensures fault { result ≡ verdict (numbers_fault (over F.Ring.ops F.Field.points self.now)) }
+        ensures fault { result ≡ verdict (numbers_fault (over self.now)) }
         ensures ranges { OnOk result (Ranges (F.Ring.ops self.now.field).order self.now.plan.numbers) }
     {
         self.plan.numbers().check(self.field.order())?;
@@ -82,9 +86,8 @@ impl<F: Field + Drop> Page<F> {
 
     // What stands against a call on all cells: the page and their length.
     pub(crate) fn check_cells(&self, cells: &[u16]) -> Result<(), PageFault>
-        ensures fault { result ≡ verdict (handed (over F.Ring.ops F.Field.points self.now) (state self.now.plan cells.now)) }
-        ensures size { OnOk result (length cells.now ≡ cell_count (over F.Ring.ops F.Field.points self.now)) }
-        ensures ranges { OnOk result (Ranges (F.Ring.ops self.now.field).order self.now.plan.numbers) }
+        ensures fault { result ≡ verdict (handed (over self.now) (state self.now.plan cells.now)) }
+        ensures size { OnOk result (length cells.now ≡ cell_count (over self.now)) }
     {
         self.check()?;
         let numbers = self.plan.numbers();
@@ -96,8 +99,8 @@ impl<F: Field + Drop> Page<F> {
 
     // Buffers of symbols and heights of other lengths than the page asks.
     pub(crate) fn check_buffers(&self, symbols: &[u16], heights: &[u16]) -> Result<(), PageFault>
-        ensures fault { result ≡ verdict (buffers_fault (over F.Ring.ops F.Field.points self.now) (buffers symbols.now heights.now)) }
-        ensures sizes { OnOk result ((length symbols.now ≡ symbol_count (over F.Ring.ops F.Field.points self.now)) × (length heights.now ≡ cell_count (over F.Ring.ops F.Field.points self.now))) }
+        ensures fault { result ≡ verdict (buffers_fault (over self.now) (buffers symbols.now heights.now)) }
+        ensures sizes { OnOk result ((length symbols.now ≡ symbol_count (over self.now)) × (length heights.now ≡ cell_count (over self.now))) }
     {
         let numbers = self.plan.numbers();
         if symbols.len() != numbers.symbol_count() {
@@ -110,15 +113,15 @@ impl<F: Field + Drop> Page<F> {
     }
 
     // A message symbol of the order or above.
-    fn check_symbol(&self, symbols: &[u16], j: usize) -> Result<(), PageFault>
-        requires { (Ranges (F.Ring.ops self.now.field).order self.now.plan.numbers) × ((j < length symbols.now) × (j < 8192)) }
-        ensures { result ≡ verdict (symbol_fault (over F.Ring.ops F.Field.points self.now) symbols.now j) }
+    fn check_symbol(&self, j: usize, symbol: u16) -> Result<(), PageFault>
+        requires { j < 8192 }
+        ensures { result ≡ verdict (check (nat_le (q (over self.now)) symbol) (Symbol (message_row (over self.now) j) (message_column (over self.now) j))) }
     {
-        if symbols[j] < self.field.order() {
+        if symbol < self.field.order() {
             return Ok(());
         }
         let numbers = self.plan.numbers();
-        let messages = (numbers.columns - numbers.checks) as usize;
+        let messages = numbers.message_count();
         Err(PageFault::Symbol(
             (j / messages) as u16,
             numbers.checks + (j % messages) as u16,
@@ -127,22 +130,22 @@ impl<F: Field + Drop> Page<F> {
 
     // The lowest such symbol.
     fn check_symbols(&self, symbols: &[u16]) -> Result<(), PageFault>
-        requires { (Ranges (F.Ring.ops self.now.field).order self.now.plan.numbers) × (length symbols.now ≤ 8192) }
-        ensures { result ≡ verdict (lowest 0 (length symbols.now) (symbol_fault (over F.Ring.ops F.Field.points self.now) symbols.now)) }
+        requires { length symbols.now ≤ 8192 }
+        ensures { result ≡ verdict (lowest 0 (length symbols.now) (symbol_fault (over self.now) symbols.now)) }
     {
-        for j in 0..symbols.len() {
-            self.check_symbol(symbols, j)?;
+        for (j, &symbol) in symbols.iter().enumerate() {
+            self.check_symbol(j, symbol)?;
         }
         Ok(())
     }
 
     // A height of the page's heights or above.
-    fn check_height(&self, heights: &[u16], i: usize) -> Result<(), PageFault>
-        requires { (Ranges (F.Ring.ops self.now.field).order self.now.plan.numbers) × ((i < length heights.now) × (i < 8192)) }
-        ensures { result ≡ verdict (height_fault (over F.Ring.ops F.Field.points self.now) heights.now i) }
+    fn check_height(&self, i: usize, height: u16) -> Result<(), PageFault>
+        requires { i < 8192 }
+        ensures { result ≡ verdict (check (nat_le self.now.plan.numbers.heights height) (Height (i / n (over self.now)) (i % n (over self.now)))) }
     {
         let numbers = self.plan.numbers();
-        if heights[i] < numbers.heights {
+        if height < numbers.heights {
             return Ok(());
         }
         let columns = numbers.columns as usize;
@@ -151,19 +154,19 @@ impl<F: Field + Drop> Page<F> {
 
     // The lowest such height.
     fn check_heights(&self, heights: &[u16]) -> Result<(), PageFault>
-        requires { (Ranges (F.Ring.ops self.now.field).order self.now.plan.numbers) × (length heights.now ≤ 8192) }
-        ensures { result ≡ verdict (lowest 0 (length heights.now) (height_fault (over F.Ring.ops F.Field.points self.now) heights.now)) }
+        requires { length heights.now ≤ 8192 }
+        ensures { result ≡ verdict (lowest 0 (length heights.now) (height_fault (over self.now) heights.now)) }
     {
-        for i in 0..heights.len() {
-            self.check_height(heights, i)?;
+        for (i, &height) in heights.iter().enumerate() {
+            self.check_height(i, height)?;
         }
         Ok(())
     }
 
     // What stands against a write.
     fn check_write(&self, cells: &[u16], symbols: &[u16], heights: &[u16]) -> Result<(), PageFault>
-        ensures fault { result ≡ verdict (fault (over F.Ring.ops F.Field.points self.now) (state self.now.plan cells.now) (Write (buffers symbols.now heights.now))) }
-        ensures fits { OnOk result (FitsWrite (over F.Ring.ops F.Field.points self.now) cells.now (buffers symbols.now heights.now)) }
+        ensures fault { result ≡ verdict (fault (over self.now) (state self.now.plan cells.now) (Write (buffers symbols.now heights.now))) }
+        ensures fits { OnOk result (FitsWrite (over self.now) cells.now (buffers symbols.now heights.now)) }
     {
         self.check_cells(cells)?;
         self.check_buffers(symbols, heights)?;
@@ -173,8 +176,9 @@ impl<F: Field + Drop> Page<F> {
 
     // The message symbol of cell i, or 0 in a check column.
     fn laid_symbol(&self, symbols: &[u16], i: usize) -> u16
-        requires { (Ranges (F.Ring.ops self.now.field).order self.now.plan.numbers) × ((length symbols.now ≡ symbol_count (over F.Ring.ops F.Field.points self.now)) × (i < cell_count (over F.Ring.ops F.Field.points self.now))) }
-        ensures { result ≡ laid_entry (over F.Ring.ops F.Field.points self.now) symbols.now i }
+        requires symbols { length symbols.now ≡ symbol_count (over self.now) }
+        requires inside { i < cell_count (over self.now) }
+        ensures { result ≡ laid_entry (over self.now) symbols.now i }
     {
         let numbers = self.plan.numbers();
         let columns = numbers.columns as usize;
@@ -189,18 +193,19 @@ impl<F: Field + Drop> Page<F> {
 
     // Sets the cells to the message symbols, and to 0 in the check columns.
     fn lay_symbols(&self, cells: &mut [u16], symbols: &[u16])
-        requires { (Ranges (F.Ring.ops self.now.field).order self.now.plan.numbers) × ((length symbols.now ≡ symbol_count (over F.Ring.ops F.Field.points self.now)) × (length cells.old ≡ cell_count (over F.Ring.ops F.Field.points self.now))) }
-        ensures { Updated (length cells.old) (laid_entry (over F.Ring.ops F.Field.points self.now) symbols.now) cells.old cells.new }
+        requires symbols { length symbols.now ≡ symbol_count (over self.now) }
+        requires cells { length cells.old ≡ cell_count (over self.now) }
+        ensures { Updated (length cells.old) (laid_entry (over self.now) symbols.now) cells.old cells.new }
     {
-        for i in 0..cells.len() {
-            cells[i] = self.laid_symbol(symbols, i);
+        for (i, cell) in cells.iter_mut().enumerate() {
+            *cell = self.laid_symbol(symbols, i);
         }
     }
 
     // Fills the check columns, so that each row of symbols is a code row.
     fn fill_checks(&self, cells: &mut [u16])
-        requires { (Ranges (F.Ring.ops self.now.field).order self.now.plan.numbers) × (length cells.old ≡ cell_count (over F.Ring.ops F.Field.points self.now)) }
-        ensures { FilledRows (over F.Ring.ops F.Field.points self.now).field self.now.plan.numbers.columns (range_with_len 0 self.now.plan.numbers.checks) cells.old cells.new }
+        requires { length cells.old ≡ cell_count (over self.now) }
+        ensures { FilledRows (over self.now).field self.now.plan.numbers.columns (range_with_len 0 self.now.plan.numbers.checks) cells.old cells.new }
     {
         let numbers = self.plan.numbers();
         let columns = first_columns();
@@ -214,15 +219,14 @@ impl<F: Field + Drop> Page<F> {
 
     // Adds height × order to each cell's symbol.
     fn add_heights(&self, cells: &mut [u16], heights: &[u16])
-        requires ranges { Ranges (F.Ring.ops self.now.field).order self.now.plan.numbers }
         requires long { length cells.old ≡ length heights.now }
         requires symbols { (i : ℕ) → i < length cells.old → slice_index cells.old i < (F.Ring.ops self.now.field).order }
         requires heights { (i : ℕ) → i < length cells.old → slice_index heights.now i < self.now.plan.numbers.heights }
         ensures { Updated (length cells.old) (level_at (F.Ring.ops self.now.field).order heights.now cells.old) cells.old cells.new }
     {
         let order = self.field.order();
-        for i in 0..cells.len() {
-            cells[i] = heights[i] * order + cells[i];
+        for (i, cell) in cells.iter_mut().enumerate() {
+            *cell = heights[i] * order + *cell;
         }
     }
 
@@ -234,7 +238,7 @@ impl<F: Field + Drop> Page<F> {
         symbols: &[u16],
         heights: &[u16],
     ) -> Result<(), PageFault>
-        ensures { Step (over F.Ring.ops F.Field.points self.now) (event (state self.now.plan cells.old) (Write (buffers symbols.now heights.now)) (answered result) (buffers symbols.now heights.now) (state self.now.plan cells.new)) }
+        ensures { Step (over self.now) (event (state self.now.plan cells.old) (Write (buffers symbols.now heights.now)) (answered result) (buffers symbols.now heights.now) (state self.now.plan cells.new)) }
     {
         self.check_write(cells, symbols, heights)?;
         self.lay_symbols(cells, symbols);
@@ -256,11 +260,7 @@ pub fn order_kind(kind: u16, numbers: Numbers) -> Result<Page<KindField>, OrderF
 
 // The columns 0, 1, 2 and so on.
 fn first_columns() -> [u16; 64]
-    ensures { Updated 64 (λ i. i) (replicate 64 0) result }
+    ensures { (i : ℕ) → i < 64 → slice_index result i ≡ i }
 {
-    let mut columns = [0; 64];
-    for i in 0..64usize {
-        columns[i] = i as u16;
-    }
-    columns
+    array::from_fn(|i| i as u16)
 }

@@ -1,16 +1,16 @@
 // The calls read and scrub: what the cells decode to, or why they are refused.
-ghost use Rattle.std.specs.Prelude.{◌≡◌, ℕ, ◌+◌, ◌-◌, ◌*◌, ◌/◌, ◌%◌, ◌<◌, ◌≤◌, false, length, if◌then◌else◌, OnOk, slice_index};
-ghost use Rattle.basics.specs.Checks.{verdict, lowest};
-ghost use Rattle.basics.specs.Lists.{Updated, row_of};
+ghost use Rattle.std.specs.Prelude.{◌≡◌, ℕ, ◌+◌, ◌-◌, ◌*◌, ◌/◌, ◌%◌, ◌<◌, ◌≤◌, not, ◌&&◌, nat_le, nat_lt, length, if◌then◌else◌, IfSome, IfOk, OnOk, slice_index};
+ghost use Rattle.basics.specs.Checks.{check, verdict, fault_of, lowest};
+ghost use Rattle.basics.specs.Lists.{Updated};
 ghost use Rattle.algebra.specs.Rows.{among};
 ghost use Rattle.codes.specs.Correct.{Flagged};
-ghost use Rattle.plans.specs.Orders.{Ranges};
-ghost use Rattle.rules.specs.Pages.{tabled, q, cell_of, symbol_count, cell_count};
-ghost use Rattle.rules.specs.Reach.{dead, drift, drifted, risen, far_fault, under_fault, drift_fault};
-ghost use Rattle.rules.specs.Calls.{reading_fault, fault, read as Read, scrub as Scrub};
+ghost use Rattle.rules.specs.Pages.{tabled, q, n, cell_of, symbol_count, cell_count};
+ghost use Rattle.rules.specs.Reach.{levels, dead, drift, drifted, risen, drift_fault};
+ghost use Rattle.rules.specs.Calls.{handed, reading_fault};
 ghost use Rattle.rules.specs.Laws.{ReadingLaw};
 ghost use Rattle.rules.specs.Runs.{RunLaw};
-ghost use Rattle.rules.specs.Views.{marking, state, buffers, Readable, FitsCells, FitsRead, CorrectedTo, row_lost, row_drift, settled_at, PageDecoded, Reads, Scrubs};
+ghost use Rattle.rules.specs.Views.{marking, state, buffers, Readable, CorrectedTo, rows_before, row_lost, row_drift, settled_at, readings_fault, PageDecoded, Recovered, Reads, Scrubs};
+ghost use Rattle.rules.specs.declared.fault.PageFault.TheVariants.{Reading};
 ghost use Rattle.pages.specs.Views.{over};
 
 use crate::page::Page;
@@ -18,53 +18,210 @@ use codes::correct::{CorrectFault, correct_rows, flags};
 use fields::{Field, Ring};
 use rules::fault::PageFault;
 
-impl<F: Field + Drop> Page<F> {
-    // A cell that reads no level in an unmarked column.
-    fn check_reading(&self, marks: &[bool; 256], cells: &[u16], i: usize) -> Result<(), PageFault>
-        requires ranges { Ranges (F.Ring.ops self.now.field).order self.now.plan.numbers }
-        requires inside { i < length cells.now }
-        requires few { i < 8192 }
-        requires marks { Flagged 256 (λ k. among k (marking self.now.plan)) marks.now }
-        ensures { result ≡ verdict (reading_fault (over F.Ring.ops F.Field.points self.now) (state self.now.plan cells.now) i) }
+// The cells of a page as they read, and which columns are marked.
+// The levels stand in a buffer beside it: were that a part of it, each call that fills it would have to say what stays.
+#[derive(Drop)]
+struct Readings<'a, F: Field> {
+    page: &'a Page<F>,
+    cells: &'a [u16],
+    marks: [bool; 256],
+    ghost size: { length cells.now ≡ cell_count (over page.now) },
+    ghost marked: { Flagged 256 (λ k. among k (marking page.now.plan)) marks },
+}
+
+impl<'a, F: Field + Drop> Readings<'a, F> {
+    ghost use Rattle.pages.specs.Readings.{of_page, seen};
+
+    // The cells, where the page's numbers and their length stand the check of every call on all cells.
+    fn new(page: &'a Page<F>, cells: &'a [u16]) -> Result<Readings<'a, F>, PageFault>
+        ensures fault { fault_of result ≡ handed (over page.now) (state page.now.plan cells.now) }
+        ensures page { IfOk result (λ readings. (of_page readings ≡ over page.now) × (seen readings ≡ state page.now.plan cells.now)) }
     {
-        let numbers = self.plan.numbers();
+        page.check_cells(cells)?;
+        Ok(Readings {
+            page,
+            cells,
+            marks: flags(page.marked()),
+        })
+    }
+
+    // Whether cell i lies in a marked column.
+    fn is_dead(&self, i: usize) -> bool
+        ensures { result ≡ dead (of_page self.now) (seen self.now).marking i }
+    {
+        self.marks[i % self.page.numbers().columns as usize]
+    }
+
+    // A cell that reads no level in an unmarked column.
+    fn check_reading(&self, i: usize, reading: u16) -> Result<(), PageFault>
+        requires { i < 8192 }
+        ensures { result ≡ verdict (check (not (dead (of_page self.now) (seen self.now).marking i) && nat_le (levels (of_page self.now)) reading) (Reading (i / n (of_page self.now)) (i % n (of_page self.now)))) }
+    {
+        let numbers = self.page.numbers();
         let columns = numbers.columns as usize;
-        let levels = self.field.order() as u32 * numbers.heights as u32;
-        if !marks[i % columns] && cells[i] as u32 >= levels {
+        if !self.is_dead(i) && reading as u32 >= numbers.level_count(self.page.field.order()) {
             return Err(PageFault::Reading((i / columns) as u16, (i % columns) as u16));
         }
         Ok(())
     }
 
     // The lowest such cell.
-    fn check_readings(&self, marks: &[bool; 256], cells: &[u16]) -> Result<(), PageFault>
-        requires ranges { Ranges (F.Ring.ops self.now.field).order self.now.plan.numbers }
-        requires few { length cells.now ≤ 8192 }
-        requires marks { Flagged 256 (λ k. among k (marking self.now.plan)) marks.now }
-        ensures { result ≡ verdict (lowest 0 (length cells.now) (reading_fault (over F.Ring.ops F.Field.points self.now) (state self.now.plan cells.now))) }
+    fn check(&self) -> Result<(), PageFault>
+        ensures { result ≡ verdict (readings_fault (of_page self.now) (seen self.now)) }
     {
-        for i in 0..cells.len() {
-            self.check_reading(marks, cells, i)?;
+        let cells = self.cells;
+        for (i, &reading) in cells.iter().enumerate() {
+            self.check_reading(i, reading)?;
         }
         Ok(())
     }
 
     // The symbols of the readings, before they are corrected.
-    fn lay_readings(&self, cells: &[u16], page: &mut [u16])
-        requires long { length page.old ≡ length cells.now }
-        ensures { Updated (length page.old) (λ i. slice_index cells.now i % (F.Ring.ops self.now.field).order) page.old page.new }
+    fn lay(&self, symbols: &mut [u16])
+        requires { length symbols.old ≡ cell_count (of_page self.now) }
+        ensures { Updated (length symbols.old) (λ i. slice_index (seen self.now).cells i % q (of_page self.now)) symbols.old symbols.new }
     {
-        let order = self.field.order();
-        for i in 0..page.len() {
-            page[i] = cells[i] % order;
+        let order = self.page.field.order();
+        for (i, symbol) in symbols.iter_mut().enumerate() {
+            *symbol = self.cells[i] % order;
         }
     }
 
-    // Corrects the rows of symbols, and says how many there are before the first that no code row is close enough to.
-    fn correct(&self, page: &mut [u16]) -> usize
-        requires ranges { Ranges (F.Ring.ops self.now.field).order self.now.plan.numbers }
-        requires long { length page.old ≡ cell_count (over F.Ring.ops F.Field.points self.now) }
-        ensures { CorrectedTo (over F.Ring.ops F.Field.points self.now) (marking self.now.plan) result page.old page.new }
+    // The lowest unmarked column of a row where the drift of its reading is above a limit.
+    fn drift_above<L: Fn(u16) -> u16>(
+        &self,
+        readings: &[u16],
+        symbols: &[u16],
+        limit: L,
+    ) -> Option<u16>
+        requires callable { L.IsAlwaysCallable limit }
+        requires few { length readings.now ≤ 256 }
+        requires symbols { length symbols.now ≡ length readings.now }
+        ensures { (m : ℕ → ℕ) → ((x y : ℕ) → L.post limit x y → y ≡ m x) → result ≡ lowest 0 (length readings.now) (λ i. check (not (among i (seen self.now).marking) && nat_lt (m (slice_index readings.now i)) (drift (of_page self.now) (slice_index readings.now i) (slice_index symbols.now i))) i) }
+    {
+        for (i, &reading) in readings.iter().enumerate() {
+            if !self.marks[i] && self.page.drift(reading, symbols[i]) > limit(reading) {
+                return Some(i as u16);
+            }
+        }
+        None
+    }
+
+    // The lowest column whose drift is above the bound, else the lowest whose drift is above its reading.
+    fn check_drift(&self, k: u16, readings: &[u16], symbols: &[u16]) -> Result<(), PageFault>
+        requires few { length readings.now ≤ 256 }
+        requires long { length readings.now ≡ n (of_page self.now) }
+        requires symbols { length symbols.now ≡ length readings.now }
+        ensures { result ≡ verdict (drift_fault (of_page self.now) (seen self.now).marking k readings.now symbols.now) }
+    {
+        let bound = self.page.numbers().drift;
+        if let Some(i) = self.drift_above(readings, symbols, |_reading| bound) {
+            return Err(PageFault::Far(k, i));
+        }
+        if let Some(i) = self.drift_above(readings, symbols, |reading| reading) {
+            return Err(PageFault::Under(k, i));
+        }
+        Ok(())
+    }
+
+    // The lowest row, of those that were corrected, whose drifts do not fit.
+    fn check_drifts(&self, symbols: &[u16], rows: usize) -> Result<(), PageFault>
+        requires symbols { length symbols.now ≡ cell_count (of_page self.now) }
+        requires rows { rows ≤ self.now.page.now.plan.numbers.rows }
+        ensures { result ≡ verdict (lowest 0 rows (row_drift (of_page self.now) (seen self.now).marking (seen self.now).cells symbols.now)) }
+    {
+        let columns = self.page.numbers().columns as usize;
+        let pairs = self
+            .cells
+            .chunks_exact(columns)
+            .zip(symbols.chunks_exact(columns));
+        for (k, (readings, symbols)) in pairs.take(rows).enumerate() {
+            self.check_drift(k as u16, readings, symbols)?;
+        }
+        Ok(())
+    }
+
+    // The level of cell i: its reading less its drift, and in a marked column its symbol.
+    fn level(&self, i: usize, reading: u16, symbol: u16) -> u16
+        ensures { result ≡ (if dead (of_page self.now) (seen self.now).marking i then symbol else reading - drift (of_page self.now) reading symbol) }
+    {
+        if self.is_dead(i) {
+            symbol
+        } else {
+            reading.saturating_sub(self.page.drift(reading, symbol))
+        }
+    }
+
+    // Turns corrected symbols into levels.
+    fn settle(&self, levels: &mut [u16])
+        requires { length levels.old ≡ cell_count (of_page self.now) }
+        ensures { Updated (length levels.old) (settled_at (of_page self.now) (seen self.now).marking (seen self.now).cells levels.old) levels.old levels.new }
+    {
+        for (i, level) in levels.iter_mut().enumerate() {
+            *level = self.level(i, self.cells[i], *level);
+        }
+    }
+
+    // Decodes the cells into `levels`, or refuses the lowest row that is in reach of no levels.
+    fn decode(&self, levels: &mut [u16]) -> Result<(), PageFault>
+        requires levels { length levels.old ≡ cell_count (of_page self.now) }
+        requires readable { Readable (of_page self.now) (seen self.now) }
+        ensures { PageDecoded (of_page self.now) (seen self.now) levels.new result }
+    {
+        self.lay(levels);
+        let lost = self.page.correct(levels);
+        self.check_drifts(levels, self.page.rows_before(lost))?;
+        if let Some(row) = lost {
+            return Err(PageFault::Lost(row as u16));
+        }
+        self.settle(levels);
+        Ok(())
+    }
+
+    // By how much a reading stands above the level of cell i, in an unmarked column.
+    fn rise(&self, i: usize, reading: u16, level: u16) -> u16
+        ensures { result ≡ (if dead (of_page self.now) (seen self.now).marking i then 0 else reading - level) }
+    {
+        if self.is_dead(i) {
+            0
+        } else {
+            reading.saturating_sub(level)
+        }
+    }
+
+    // How many unmarked cells read above their levels, and by how much in all.
+    fn tally(&self, levels: &[u16]) -> (u32, u32)
+        requires { length levels.now ≡ cell_count (of_page self.now) }
+        ensures drifted { result.0 ≡ drifted (of_page self.now) (seen self.now).marking (seen self.now).cells levels.now }
+        ensures risen { result.1 ≡ risen (of_page self.now) (seen self.now).marking (seen self.now).cells levels.now }
+    {
+        let mut drifted = 0u32;
+        let mut risen = 0u32;
+        for (i, &level) in levels.iter().enumerate() {
+            let above = self.rise(i, self.cells[i], level);
+            drifted += above.min(1) as u32;
+            risen += above as u32;
+        }
+        (drifted, risen)
+    }
+
+    // Checks the cells and decodes them into `levels`; how many drifted, and by how much in all.
+    fn recover(&self, levels: &mut [u16]) -> Result<(u32, u32), PageFault>
+        requires { length levels.old ≡ cell_count (of_page self.now) }
+        ensures { Recovered (of_page self.now) (seen self.now) levels.new result }
+    {
+        self.check()?;
+        self.decode(levels)?;
+        Ok(self.tally(levels))
+    }
+}
+
+impl<F: Field + Drop> Page<F> {
+    // Corrects the rows of symbols up to the first that no code row is close enough to: which that is, if there is one.
+    fn correct(&self, symbols: &mut [u16]) -> Option<usize>
+        requires { length symbols.old ≡ cell_count (over self.now) }
+        ensures corrected { CorrectedTo (over self.now) (marking self.now.plan) (rows_before (over self.now) result) symbols.old symbols.new }
+        ensures inside { IfSome result (λ row. row < self.now.plan.numbers.rows) }
     {
         let numbers = self.plan.numbers();
         match correct_rows(
@@ -72,279 +229,66 @@ impl<F: Field + Drop> Page<F> {
             numbers.columns as usize,
             numbers.checks as usize,
             self.plan.marking(),
-            page,
+            symbols,
         ) {
-            Ok(()) => numbers.rows as usize,
+            Ok(()) => None,
             Err(fault) => lost_row(fault),
         }
     }
 
-    // Row k of the cells, or of a page.
-    fn row<'a>(&self, cells: &'a [u16], k: usize) -> &'a [u16]
-        requires { k * self.now.plan.numbers.columns + self.now.plan.numbers.columns ≤ length cells.now }
-        ensures { result.now ≡ row_of self.now.plan.numbers.columns k cells.now }
+    // How many rows come before the lost one: all, where none is lost.
+    fn rows_before(&self, lost: Option<usize>) -> usize
+        ensures { result ≡ rows_before (over self.now) lost }
     {
-        let columns = self.plan.numbers().columns as usize;
-        &cells[k * columns..k * columns + columns]
+        lost.unwrap_or(self.plan.numbers().rows as usize)
     }
 
     // By how much a reading stands above a level of this symbol.
     fn drift(&self, reading: u16, symbol: u16) -> u16
-        ensures { result ≡ drift (over F.Ring.ops F.Field.points self.now) reading symbol }
+        ensures { result ≡ drift (over self.now) reading symbol }
     {
         let order = self.field.order();
         ((reading as u32 + order.saturating_sub(symbol) as u32) % order as u32) as u16
     }
 
-    // A drift above the bound.
-    fn check_far(
-        &self,
-        marks: &[bool; 256],
-        k: u16,
-        row: &[u16],
-        symbols: &[u16],
-        i: u16,
-    ) -> Result<(), PageFault>
-        requires inside { i < length row.now }
-        requires symbol { i < length symbols.now }
-        requires few { i < 256 }
-        requires marks { Flagged 256 (λ k. among k (marking self.now.plan)) marks.now }
-        ensures { result ≡ verdict (far_fault (over F.Ring.ops F.Field.points self.now) (marking self.now.plan) k row.now symbols.now i) }
+    // Where message symbol j stands.
+    fn cell_of(&self, j: usize) -> usize
+        requires { j < symbol_count (over self.now) }
+        ensures { result ≡ cell_of (over self.now) j }
     {
-        if !marks[i as usize]
-            && self.drift(row[i as usize], symbols[i as usize]) > self.plan.numbers().drift
-        {
-            return Err(PageFault::Far(k, i));
-        }
-        Ok(())
-    }
-
-    // A drift above the reading.
-    fn check_under(
-        &self,
-        marks: &[bool; 256],
-        k: u16,
-        row: &[u16],
-        symbols: &[u16],
-        i: u16,
-    ) -> Result<(), PageFault>
-        requires inside { i < length row.now }
-        requires symbol { i < length symbols.now }
-        requires few { i < 256 }
-        requires marks { Flagged 256 (λ k. among k (marking self.now.plan)) marks.now }
-        ensures { result ≡ verdict (under_fault (over F.Ring.ops F.Field.points self.now) (marking self.now.plan) k row.now symbols.now i) }
-    {
-        if !marks[i as usize]
-            && self.drift(row[i as usize], symbols[i as usize]) > row[i as usize]
-        {
-            return Err(PageFault::Under(k, i));
-        }
-        Ok(())
-    }
-
-    // The lowest column whose drift is above the bound, else the lowest whose drift is above its reading.
-    fn check_drift(
-        &self,
-        marks: &[bool; 256],
-        k: u16,
-        row: &[u16],
-        symbols: &[u16],
-    ) -> Result<(), PageFault>
-        requires few { length row.now ≤ 256 }
-        requires long { length row.now ≡ self.now.plan.numbers.columns }
-        requires symbols { length symbols.now ≡ length row.now }
-        requires marks { Flagged 256 (λ k. among k (marking self.now.plan)) marks.now }
-        ensures { result ≡ verdict (drift_fault (over F.Ring.ops F.Field.points self.now) (marking self.now.plan) k row.now symbols.now) }
-    {
-        for i in 0..row.len() as u16 {
-            self.check_far(marks, k, row, symbols, i)?;
-        }
-        for j in 0..row.len() as u16 {
-            self.check_under(marks, k, row, symbols, j)?;
-        }
-        Ok(())
-    }
-
-    // What is wrong with the drifts of row k, whose symbols were corrected.
-    fn check_row(
-        &self,
-        marks: &[bool; 256],
-        cells: &[u16],
-        page: &[u16],
-        k: usize,
-    ) -> Result<(), PageFault>
-        requires ranges { Ranges (F.Ring.ops self.now.field).order self.now.plan.numbers }
-        requires cells { length cells.now ≡ cell_count (over F.Ring.ops F.Field.points self.now) }
-        requires page { length page.now ≡ cell_count (over F.Ring.ops F.Field.points self.now) }
-        requires row { k < self.now.plan.numbers.rows }
-        requires marks { Flagged 256 (λ k. among k (marking self.now.plan)) marks.now }
-        ensures { result ≡ verdict (row_drift (over F.Ring.ops F.Field.points self.now) (marking self.now.plan) cells.now page.now k) }
-    {
-        let readings = self.row(cells, k);
-        let symbols = self.row(page, k);
-        self.check_drift(marks, k as u16, readings, symbols)
-    }
-
-    // The lowest row, of those that were corrected, whose drifts do not fit.
-    fn check_drifts(
-        &self,
-        marks: &[bool; 256],
-        cells: &[u16],
-        page: &[u16],
-        rows: usize,
-    ) -> Result<(), PageFault>
-        requires ranges { Ranges (F.Ring.ops self.now.field).order self.now.plan.numbers }
-        requires cells { length cells.now ≡ cell_count (over F.Ring.ops F.Field.points self.now) }
-        requires page { length page.now ≡ cell_count (over F.Ring.ops F.Field.points self.now) }
-        requires rows { rows ≤ self.now.plan.numbers.rows }
-        requires marks { Flagged 256 (λ k. among k (marking self.now.plan)) marks.now }
-        ensures { result ≡ verdict (lowest 0 rows (row_drift (over F.Ring.ops F.Field.points self.now) (marking self.now.plan) cells.now page.now)) }
-    {
-        for k in 0..rows {
-            self.check_row(marks, cells, page, k)?;
-        }
-        Ok(())
-    }
-
-    // The level of cell i: its reading less its drift, and in a marked column its symbol.
-    fn level(&self, marks: &[bool; 256], i: usize, reading: u16, symbol: u16) -> u16
-        requires ranges { Ranges (F.Ring.ops self.now.field).order self.now.plan.numbers }
-        requires marks { Flagged 256 (λ k. among k (marking self.now.plan)) marks.now }
-        ensures { result ≡ (if dead (over F.Ring.ops F.Field.points self.now) (marking self.now.plan) i then symbol else reading - drift (over F.Ring.ops F.Field.points self.now) reading symbol) }
-    {
-        let columns = self.plan.numbers().columns as usize;
-        if marks[i % columns] {
-            symbol
-        } else {
-            reading.saturating_sub(self.drift(reading, symbol))
-        }
-    }
-
-    // Turns corrected symbols into levels.
-    fn settle(&self, marks: &[bool; 256], cells: &[u16], page: &mut [u16])
-        requires ranges { Ranges (F.Ring.ops self.now.field).order self.now.plan.numbers }
-        requires long { length page.old ≡ length cells.now }
-        requires marks { Flagged 256 (λ k. among k (marking self.now.plan)) marks.now }
-        ensures { Updated (length page.old) (settled_at (over F.Ring.ops F.Field.points self.now) (marking self.now.plan) cells.now page.old) page.old page.new }
-    {
-        for i in 0..page.len() {
-            page[i] = self.level(marks, i, cells[i], page[i]);
-        }
-    }
-
-    // Decodes the cells into `page`, or refuses the lowest row that is in reach of no levels.
-    fn decode(&self, marks: &[bool; 256], cells: &[u16], page: &mut [u16]) -> Result<(), PageFault>
-        requires ranges { Ranges (F.Ring.ops self.now.field).order self.now.plan.numbers }
-        requires cells { length cells.now ≡ cell_count (over F.Ring.ops F.Field.points self.now) }
-        requires page { length page.old ≡ cell_count (over F.Ring.ops F.Field.points self.now) }
-        requires readable { Readable (over F.Ring.ops F.Field.points self.now) (state self.now.plan cells.now) }
-        requires marks { Flagged 256 (λ k. among k (marking self.now.plan)) marks.now }
-        ensures { PageDecoded (over F.Ring.ops F.Field.points self.now) (state self.now.plan cells.now) page.new result }
-    {
-        self.lay_readings(cells, page);
-        let good = self.correct(page);
-        self.check_drifts(marks, cells, page, good)?;
-        if good < self.plan.numbers().rows as usize {
-            return Err(PageFault::Lost(good as u16));
-        }
-        self.settle(marks, cells, page);
-        Ok(())
+        let numbers = self.plan.numbers();
+        let messages = numbers.message_count();
+        j / messages * numbers.columns as usize + (numbers.checks as usize + j % messages)
     }
 
     // The message symbols of a page of levels.
-    fn fill_symbols(&self, page: &[u16], symbols: &mut [u16])
-        requires ranges { Ranges (F.Ring.ops self.now.field).order self.now.plan.numbers }
-        requires page { length page.now ≡ cell_count (over F.Ring.ops F.Field.points self.now) }
-        requires long { length symbols.old ≡ symbol_count (over F.Ring.ops F.Field.points self.now) }
-        ensures { symbols.new ≡ tabled (symbol_count (over F.Ring.ops F.Field.points self.now)) (λ j. slice_index page.now (cell_of (over F.Ring.ops F.Field.points self.now) j) % q (over F.Ring.ops F.Field.points self.now)) }
+    fn fill_symbols(&self, levels: &[u16], symbols: &mut [u16])
+        requires levels { length levels.now ≡ cell_count (over self.now) }
+        requires long { length symbols.old ≡ symbol_count (over self.now) }
+        ensures { symbols.new ≡ tabled (symbol_count (over self.now)) (λ j. slice_index levels.now (cell_of (over self.now) j) % q (over self.now)) }
     {
         let order = self.field.order();
-        for j in 0..symbols.len() {
-            symbols[j] = page[self.cell_of(j)] % order;
+        for (j, symbol) in symbols.iter_mut().enumerate() {
+            *symbol = levels[self.cell_of(j)] % order;
         }
-    }
-
-    // Where message symbol j stands.
-    fn cell_of(&self, j: usize) -> usize
-        requires ranges { Ranges (F.Ring.ops self.now.field).order self.now.plan.numbers }
-        requires inside { j < symbol_count (over F.Ring.ops F.Field.points self.now) }
-        ensures { result ≡ cell_of (over F.Ring.ops F.Field.points self.now) j }
-    {
-        let numbers = self.plan.numbers();
-        let checks = numbers.checks as usize;
-        let messages = numbers.columns as usize - checks;
-        j / messages * numbers.columns as usize + (checks + j % messages)
     }
 
     // The heights of a page of levels.
-    fn fill_heights(&self, page: &[u16], heights: &mut [u16])
-        requires ranges { Ranges (F.Ring.ops self.now.field).order self.now.plan.numbers }
-        requires page { length page.now ≡ cell_count (over F.Ring.ops F.Field.points self.now) }
-        requires long { length heights.old ≡ cell_count (over F.Ring.ops F.Field.points self.now) }
-        ensures { heights.new ≡ tabled (cell_count (over F.Ring.ops F.Field.points self.now)) (λ i. slice_index page.now i / q (over F.Ring.ops F.Field.points self.now)) }
+    fn fill_heights(&self, levels: &[u16], heights: &mut [u16])
+        requires levels { length levels.now ≡ cell_count (over self.now) }
+        requires long { length heights.old ≡ cell_count (over self.now) }
+        ensures { heights.new ≡ tabled (cell_count (over self.now)) (λ i. slice_index levels.now i / q (over self.now)) }
     {
         let order = self.field.order();
-        for i in 0..heights.len() {
-            heights[i] = page[i] / order;
+        for (i, height) in heights.iter_mut().enumerate() {
+            *height = levels[i] / order;
         }
-    }
-
-    // By how much the unmarked cell i reads above its level.
-    fn rise(&self, marks: &[bool; 256], cells: &[u16], page: &[u16], i: usize) -> u16
-        requires ranges { Ranges (F.Ring.ops self.now.field).order self.now.plan.numbers }
-        requires cells { i < length cells.now }
-        requires page { i < length page.now }
-        requires marks { Flagged 256 (λ k. among k (marking self.now.plan)) marks.now }
-        ensures { result ≡ (if dead (over F.Ring.ops F.Field.points self.now) (marking self.now.plan) i then 0 else slice_index cells.now i - slice_index page.now i) }
-    {
-        let columns = self.plan.numbers().columns as usize;
-        if marks[i % columns] {
-            0
-        } else {
-            cells[i].saturating_sub(page[i])
-        }
-    }
-
-    // How many unmarked cells read above the levels of a page, and by how much in all.
-    fn tally(&self, marks: &[bool; 256], cells: &[u16], page: &[u16]) -> (u32, u32)
-        requires ranges { Ranges (F.Ring.ops self.now.field).order self.now.plan.numbers }
-        requires cells { length cells.now ≡ cell_count (over F.Ring.ops F.Field.points self.now) }
-        requires page { length page.now ≡ cell_count (over F.Ring.ops F.Field.points self.now) }
-        requires marks { Flagged 256 (λ k. among k (marking self.now.plan)) marks.now }
-        ensures drifted { result.0 ≡ drifted (over F.Ring.ops F.Field.points self.now) (marking self.now.plan) cells.now page.now }
-        ensures risen { result.1 ≡ risen (over F.Ring.ops F.Field.points self.now) (marking self.now.plan) cells.now page.now }
-    {
-        let mut drifted = 0u32;
-        let mut risen = 0u32;
-        for i in 0..cells.len() {
-            let above = self.rise(marks, cells, page, i);
-            drifted += above.min(1) as u32;
-            risen += above as u32;
-        }
-        (drifted, risen)
-    }
-
-    // What stands against a read, but for what decoding says.
-    fn check_read(
-        &self,
-        marks: &[bool; 256],
-        cells: &[u16],
-        symbols: &[u16],
-        heights: &[u16],
-    ) -> Result<(), PageFault>
-        requires { Flagged 256 (λ k. among k (marking self.now.plan)) marks.now }
-        ensures fault { result ≡ verdict (fault (over F.Ring.ops F.Field.points self.now) (state self.now.plan cells.now) (Read (buffers symbols.now heights.now))) }
-        ensures fits { OnOk result (FitsRead (over F.Ring.ops F.Field.points self.now) (state self.now.plan cells.now) (buffers symbols.now heights.now)) }
-    {
-        self.check_cells(cells)?;
-        self.check_buffers(symbols, heights)?;
-        self.check_readings(marks, cells)
     }
 
     // What reading rests on, and what every run of calls keeps, by the rules of the field's inverses and points.
     fn keeps(&self)
-        ensures law { ReadingLaw (over F.Ring.ops F.Field.points self.now) }
-        ensures runs { RunLaw (over F.Ring.ops F.Field.points self.now) }
+        ensures law { ReadingLaw (over self.now) }
+        ensures runs { RunLaw (over self.now) }
     {
         let _ = self.field.inverse(1);
         let _ = self.field.point(0);
@@ -358,56 +302,42 @@ impl<F: Field + Drop> Page<F> {
         symbols: &mut [u16],
         heights: &mut [u16],
     ) -> Result<(u32, u32), PageFault>
-        ensures step { Reads (over F.Ring.ops F.Field.points self.now) (state self.now.plan cells.now) (buffers symbols.old heights.old) result (buffers symbols.new heights.new) }
-        ensures law { ReadingLaw (over F.Ring.ops F.Field.points self.now) }
-        ensures runs { RunLaw (over F.Ring.ops F.Field.points self.now) }
+        ensures step { Reads (over self.now) (state self.now.plan cells.now) (buffers symbols.old heights.old) result (buffers symbols.new heights.new) }
+        ensures law { ReadingLaw (over self.now) }
+        ensures runs { RunLaw (over self.now) }
     {
         self.keeps();
-        let marks = flags(self.plan.marking());
-        self.check_read(&marks, cells, symbols, heights)?;
-        let mut levels = [0; 8192];
-        let page = &mut levels[0..cells.len()];
-        self.decode(&marks, cells, page)?;
-        self.fill_symbols(page, symbols);
-        self.fill_heights(page, heights);
-        Ok(self.tally(&marks, cells, page))
-    }
-
-    // What stands against a scrub, but for what decoding says.
-    fn check_scrub(&self, marks: &[bool; 256], cells: &[u16]) -> Result<(), PageFault>
-        requires { Flagged 256 (λ k. among k (marking self.now.plan)) marks.now }
-        ensures fault { result ≡ verdict (fault (over F.Ring.ops F.Field.points self.now) (state self.now.plan cells.now) Scrub) }
-        ensures fits { OnOk result (FitsCells (over F.Ring.ops F.Field.points self.now) (state self.now.plan cells.now)) }
-    {
-        self.check_cells(cells)?;
-        self.check_readings(marks, cells)
+        let readings = Readings::new(self, cells)?;
+        self.check_buffers(symbols, heights)?;
+        let mut page = [0; 8192];
+        let levels = &mut page[0..cells.len()];
+        let counts = readings.recover(levels)?;
+        self.fill_symbols(levels, symbols);
+        self.fill_heights(levels, heights);
+        Ok(counts)
     }
 
     // Sets every cell to its decoded level, in a marked column to its symbol; how many unmarked cells read above their
     // levels, and by how much in all.
     pub fn scrub(&self, cells: &mut [u16]) -> Result<(u32, u32), PageFault>
-        ensures { Scrubs (over F.Ring.ops F.Field.points self.now) (state self.now.plan cells.old) result cells.new }
+        ensures { Scrubs (over self.now) (state self.now.plan cells.old) result cells.new }
     {
-        let marks = flags(self.plan.marking());
-        self.check_scrub(&marks, cells)?;
-        let mut levels = [0; 8192];
-        let decoded = &mut levels[0..cells.len()];
-        self.decode(&marks, cells, decoded)?;
-        let pair = self.tally(&marks, cells, decoded);
-        cells.copy_from_slice(decoded);
+        let readings = Readings::new(self, cells)?;
+        let mut page = [0; 8192];
+        let levels = &mut page[0..cells.len()];
+        let pair = readings.recover(levels)?;
+        cells.copy_from_slice(levels);
         Ok(pair)
     }
 }
 
 // The row that is lost. The other faults are of numbers that no ordered page has.
-fn lost_row(fault: CorrectFault) -> usize
+fn lost_row(fault: CorrectFault) -> Option<usize>
     ensures { result ≡ row_lost fault }
 {
     match fault {
-        CorrectFault::Lost(row) => row,
-        CorrectFault::Width => 0,
-        CorrectFault::Checks => 0,
-        CorrectFault::Marking => 0,
-        CorrectFault::Length => 0,
+        CorrectFault::Lost(row) => Some(row),
+        CorrectFault::Width | CorrectFault::Checks | CorrectFault::Marking | CorrectFault::Length =>
+            None,
     }
 }

@@ -1,7 +1,6 @@
 // The calls on one column or one cell, by which what happened to a page is told: mark, raise and jolt.
-ghost use Rattle.std.specs.Prelude.{◌≡◌, ℕ, ◌+◌, ◌*◌, ◌<◌, List, length, OnOk};
-ghost use Rattle.basics.specs.Checks.{verdict};
-ghost use Rattle.plans.specs.Orders.{Ranges};
+ghost use Rattle.std.specs.Prelude.{◌≡◌, ℕ, ◌+◌, ◌*◌, ◌<◌, List, length, IfOk};
+ghost use Rattle.basics.specs.Checks.{fault_of};
 ghost use Rattle.rules.specs.Calls.{Step, event, placed, brought, mark as Mark, raise as Raise, jolt as Jolt};
 ghost use Rattle.rules.specs.Views.{state, answered};
 ghost use Rattle.pages.specs.Views.{over};
@@ -14,7 +13,7 @@ use rules::fault::PageFault;
 impl<F: Field + Drop> Page<F> {
     // Marks a column, in every row. No cell moves.
     pub fn mark(&mut self, column: u16) -> Result<(), PageFault>
-        ensures step { (cells : List ℕ) → Step (over F.Ring.ops F.Field.points self.old) (event (state self.old.plan cells) (Mark column) (answered result) (brought (Mark column)) (state self.new.plan cells)) }
+        ensures step { (cells : List ℕ) → Step (over self.old) (event (state self.old.plan cells) (Mark column) (answered result) (brought (Mark column)) (state self.new.plan cells)) }
         ensures field { self.new.field ≡ self.old.field }
         ensures numbers { self.new.plan.numbers ≡ self.old.plan.numbers }
     {
@@ -23,25 +22,18 @@ impl<F: Field + Drop> Page<F> {
         Ok(())
     }
 
-    // What stands against a call on one cell: the page, the cells' length, the place.
-    fn check_place(&self, cells: &[u16], row: u16, column: u16) -> Result<(), PageFault>
-        ensures fault { result ≡ verdict (placed (over F.Ring.ops F.Field.points self.now) (state self.now.plan cells.now) row column) }
-        ensures inside { OnOk result (row * self.now.plan.numbers.columns + column < length cells.now) }
-        ensures ranges { OnOk result (Ranges (F.Ring.ops self.now.field).order self.now.plan.numbers) }
+    // The number of the cell at a row and a column, or what stands against a call on it.
+    fn place(&self, cells: &[u16], row: u16, column: u16) -> Result<usize, PageFault>
+        ensures fault { fault_of result ≡ placed (over self.now) (state self.now.plan cells.now) row column }
+        ensures number { IfOk result (λ place. place ≡ row * self.now.plan.numbers.columns + column) }
+        ensures inside { IfOk result (λ place. place < length cells.now) }
     {
         self.check_cells(cells)?;
         let numbers = self.plan.numbers();
         if row >= numbers.rows || column >= numbers.columns {
             return Err(PageFault::Place(row, column));
         }
-        Ok(())
-    }
-
-    // The number of the cell at a row and a column.
-    fn place(&self, row: u16, column: u16) -> usize
-        ensures { result ≡ row * self.now.plan.numbers.columns + column }
-    {
-        row as usize * self.plan.numbers().columns as usize + column as usize
+        Ok(row as usize * numbers.columns as usize + column as usize)
     }
 
     // Raises a cell of an unmarked column by an amount, to a level at most.
@@ -52,14 +44,13 @@ impl<F: Field + Drop> Page<F> {
         column: u16,
         amount: u16,
     ) -> Result<(), PageFault>
-        ensures { Step (over F.Ring.ops F.Field.points self.now) (event (state self.now.plan cells.old) (Raise row column amount) (answered result) (brought (Raise row column amount)) (state self.now.plan cells.new)) }
+        ensures { Step (over self.now) (event (state self.now.plan cells.old) (Raise row column amount) (answered result) (brought (Raise row column amount)) (state self.now.plan cells.new)) }
     {
-        self.check_place(cells, row, column)?;
+        let place = self.place(cells, row, column)?;
         if is_marked(self.plan.marking(), column as usize) {
             return Err(PageFault::Dead(row, column));
         }
-        let place = self.place(row, column);
-        let levels = self.field.order() as u32 * self.plan.numbers().heights as u32;
+        let levels = self.plan.numbers().level_count(self.field.order());
         let reading = cells[place];
         if reading as u32 >= levels {
             return Err(PageFault::Reading(row, column));
@@ -79,13 +70,13 @@ impl<F: Field + Drop> Page<F> {
         column: u16,
         reading: u16,
     ) -> Result<(), PageFault>
-        ensures { Step (over F.Ring.ops F.Field.points self.now) (event (state self.now.plan cells.old) (Jolt row column reading) (answered result) (brought (Jolt row column reading)) (state self.now.plan cells.new)) }
+        ensures { Step (over self.now) (event (state self.now.plan cells.old) (Jolt row column reading) (answered result) (brought (Jolt row column reading)) (state self.now.plan cells.new)) }
     {
-        self.check_place(cells, row, column)?;
+        let place = self.place(cells, row, column)?;
         if !is_marked(self.plan.marking(), column as usize) {
             return Err(PageFault::Alive(row, column));
         }
-        cells[self.place(row, column)] = reading;
+        cells[place] = reading;
         Ok(())
     }
 }

@@ -1,5 +1,5 @@
 -- What correcting the rows of an ordered page came to.
-use Rattle.std.proofs.Common.{◌≡◌, ℕ, ◌+◌, ◌-◌, ◌*◌, ◌%◌, ◌<◌, ◌≤◌, min, true, false, not, ◌||◌, eqb, ltb, List, length, None, ◌∙◌, subst, inl, inr, arith}
+use Rattle.std.proofs.Common.{◌≡◌, ℕ, ◌+◌, ◌-◌, ◌*◌, ◌%◌, ◌<◌, ◌≤◌, min, true, false, not, ◌||◌, eqb, ltb, List, length, IfSome, None, ◌∙◌, subst, inl, inr, arith}
 use native.Mathlib.Nat.{mul-mod_left}
 use Rattle.std.proofs.lemmas.Nat.{mul-le}
 use Rattle.std.proofs.lemmas.Bool.{le-ltb, eq-eqb, or_from, not_from_true, cases_lt}
@@ -11,7 +11,7 @@ use Rattle.codes.specs.declared.correct.CorrectFault.TheVariants.{Width, Checks,
 use Rattle.plans.specs.Orders.{Ranges}
 use Rattle.plans.specs.declared.numbers.Numbers.{Numbers}
 use Rattle.rules.specs.Pages.{Setup, q, n, r, cell_count}
-use Rattle.rules.specs.Views.{CorrectedTo, row_lost}
+use Rattle.rules.specs.Views.{CorrectedTo, rows_before, row_lost}
 use Rattle.rules.proofs.Writing.{row_fits}
 
 -- the rows of an ordered page can be corrected
@@ -39,14 +39,15 @@ module _ (p : Setup) (g : Ranges (q p) p.numbers) (ms xs ys : List ℕ) (long : 
   }
 
   -- the faults but for a lost row are of other numbers
-  pub some_lost : (e : CorrectFault) → None ≡ refusal e → Left p.field (n p) (r p) ms xs ys e → CorrectedTo p ms (row_lost e) xs ys
+  pub some_lost : (e : CorrectFault) → None ≡ refusal e → Left p.field (n p) (r p) ms xs ys e
+      → CorrectedTo p ms (rows_before p (row_lost e)) xs ys × IfSome (row_lost e) (λ k. k < p.numbers.rows)
   some_lost Width e l = let z : ◌≡◌ {A = ℕ} 0 1 = cc in absurd (omega arith)
   some_lost Checks e l = let z : ◌≡◌ {A = ℕ} 0 1 = cc in absurd (omega arith)
   some_lost Marking e l = let z : ◌≡◌ {A = ℕ} 0 1 = cc in absurd (omega arith)
   some_lost Length e l = let z : ◌≡◌ {A = ℕ} 0 1 = cc in absurd (omega arith)
   some_lost (Lost k) e l =
       let h = row_of k (n p) p.numbers.rows (omega (arith, g.two_columns)) (omega (arith, l.whole, long)) in
-      record { long = l.long; some = omega arith; before = λ j i. (l.before j i).close; none = λ _. l.none }
+      (record { long = l.long; some = omega arith; before = λ j i. (l.before j i).close; none = λ _. l.none }, h)
 
 -- the same, for numbers and marks that the code hands on
 pub handed_on : (p : Setup) (m : Numbers) (ms ns xs ys : List ℕ) → m ≡ p.numbers → ns ≡ ms

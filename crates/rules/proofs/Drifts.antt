@@ -1,13 +1,15 @@
 -- Drifts of readings above levels, tables by their places, and totals.
-use Rattle.std.proofs.Common.{◌≡◌, ℕ, zero, suc, ◌+◌, ◌-◌, ◌*◌, ◌/◌, ◌%◌, ◌<◌, ◌≤◌, min, Bool, true, false, cond, ◌||◌, eqb, ltb, ◌⊎◌, List, [], ◌∷◌, get_or, sym, refl, ap, ◌∙◌, ap₂, inl, inr, mod-eq_of_lt, mul-add, add-one, arith}
+use Rattle.std.proofs.Common.{◌≡◌, ℕ, zero, suc, ◌+◌, ◌-◌, ◌*◌, ◌/◌, ◌%◌, ◌<◌, ◌≤◌, min, Bool, true, false, cond, not, ◌&&◌, ◌||◌, eqb, ltb, ◌⊎◌, List, [], ◌∷◌, length, get_or, Some, None, Option, sym, refl, ap, ◌∙◌, ap₂, inl, inr, mod-eq_of_lt, mul-add, add-one, arith}
 use native.Mathlib.Nat.{div-add-mod, add-mul-mod_self_left}
 use Rattle.std.proofs.lemmas.Nat.{mul-le, mod_below}
 use Rattle.std.proofs.lemmas.List.FromFn.{length-map-range_with_len, get_or-map-range_with_len}
 use Rattle.std.proofs.lemmas.List.{ext_get_or}
 use Rattle.std.proofs.lemmas.Bool.{cases_lt, cases_order, eqb-true, eq-eqb, cases_Bool, cond-true, cond-false, lt-ltb, le-ltb}
+use Rattle.basics.specs.Checks.{check, ◌or_else◌, lowest, told}
 use Rattle.algebra.specs.Rows.{among, differing}
-use Rattle.rules.specs.Pages.{tabled, symbols_of}
-use Rattle.rules.specs.Reach.{total}
+use Rattle.rules.specs.Pages.{Setup, tabled, symbols_of, n}
+use Rattle.rules.specs.Reach.{total, drift, far_fault, under_fault, drift_fault}
+use Rattle.rules.specs.declared.fault.PageFault.TheVariants.{Far, Under}
 
 -- a product that is one factor more
 more : (q a b : ℕ) → a < b → q * a + q ≤ q * b
@@ -94,3 +96,31 @@ one_if_above false x y = elim (cases_lt x y) [
   | inl lt ↦ cond-true (ltb x y) 1 0 (lt-ltb x y lt) ∙ omega arith
   | inr ge ↦ cond-false (ltb x y) 1 0 (le-ltb x y ge) ∙ omega arith
 ]
+
+-- checks that say where they fail, told as other faults
+lowest_told : {F : Type 0} (t : ℕ → Bool) (f : ℕ → F) (m i : ℕ) → lowest i m (λ k. check (t k) (f k)) ≡ told f (lowest i m (λ k. check (t k) k))
+lowest_told t f zero i = refl
+lowest_told t f (suc m) i = on (t i) (lowest_told t f m (i + 1))
+  where
+    on : (b : Bool) → lowest (i + 1) m (λ k. check (t k) (f k)) ≡ told f (lowest (i + 1) m (λ k. check (t k) k))
+        → (check b (f i) or_else lowest (i + 1) m (λ k. check (t k) (f k))) ≡ told f (check b i or_else lowest (i + 1) m (λ k. check (t k) k))
+    on true e = refl
+    on false e = e
+
+-- the fault of a row's drifts, by the lowest columns where one is above the bound, and above its reading
+module _ (p : Setup) (ms : List ℕ) (k : ℕ) (ys cs : List ℕ) (long : length ys ≡ n p) where
+  abbrev pub above : (ℕ → ℕ) → Option ℕ
+  above m = lowest 0 (length ys) (λ i. check (not (among i ms) && ltb (m (get_or ys i 0)) (drift p (get_or ys i 0) (get_or cs i 0))) i)
+
+  drift_told : drift_fault p ms k ys cs ≡ (told (Far k) (above (λ _. p.numbers.drift)) or_else told (Under k) (above (λ y. y)))
+  drift_told =
+      ap (λ (m : ℕ). lowest 0 m (far_fault p ms k ys cs) or_else lowest 0 m (under_fault p ms k ys cs)) (sym long)
+      ∙ ap₂ (λ a b. a or_else b)
+      (lowest_told (λ i. not (among i ms) && ltb p.numbers.drift (drift p (get_or ys i 0) (get_or cs i 0))) (Far k) (length ys) 0)
+      (lowest_told (λ i. not (among i ms) && ltb (get_or ys i 0) (drift p (get_or ys i 0) (get_or cs i 0))) (Under k) (length ys) 0)
+
+  pub drift_far : (i : ℕ) → Some i ≡ above (λ _. p.numbers.drift) → drift_fault p ms k ys cs ≡ Some (Far k i)
+  drift_far i e = drift_told ∙ sym (ap (λ o. told (Far k) o or_else told (Under k) (above (λ y. y))) e)
+
+  pub drift_else : (o : Option ℕ) → None ≡ above (λ _. p.numbers.drift) → o ≡ above (λ y. y) → drift_fault p ms k ys cs ≡ told (Under k) o
+  drift_else o e f = drift_told ∙ sym (ap₂ (λ a b. told (Far k) a or_else told (Under k) b) e f)

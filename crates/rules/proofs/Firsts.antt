@@ -1,12 +1,11 @@
 -- The first columns: they rise, and the check columns of a page can be filled.
-use Rattle.std.proofs.Common.{◌≡◌, ℕ, zero, suc, ◌+◌, ◌-◌, ◌*◌, ◌%◌, ◌<◌, ◌≤◌, min, true, false, not, ◌||◌, eqb, ltb, List, length, take, replicate, None, Result, sym, refl, ap, ◌∙◌, subst, ap₂, inl, inr, add-one, arith, MatchResult}
+use Rattle.std.proofs.Common.{◌≡◌, ℕ, zero, suc, ◌+◌, ◌-◌, ◌*◌, ◌%◌, ◌<◌, ◌≤◌, min, true, false, not, ◌||◌, eqb, ltb, List, length, get_or, take, None, Result, sym, refl, ap, ◌∙◌, subst, ap₂, inl, inr, add-one, arith, MatchResult}
 use native.Mathlib.Nat.{mul-mod_left, sub-zero}
 use Rattle.std.specs.List.{range_with_len}
 use Rattle.std.proofs.lemmas.Result.{MatchResult-at_ok}
 use Rattle.std.proofs.lemmas.List.FromFn.{length-range_with_len, get_or-range_with_len}
 use Rattle.std.proofs.lemmas.List.{length-take-le, get_or-take, ext_get_or}
 use Rattle.std.proofs.lemmas.Bool.{le-leb, lt-ltb, le-ltb, ne_eqb, eq-eqb, and_from, or_from, not_from_true, or_left, or_right, true≢false, cases_lt}
-use Rattle.basics.specs.Lists.{Updated}
 use Rattle.basics.proofs.Checking.{check_false, others_pass}
 use Rattle.basics.specs.Checks.{verdict}
 use Rattle.fields.specs.Rings.{FieldOps}
@@ -37,12 +36,12 @@ counting_past m i e = elim (cases_lt i m) [ inl h ↦ absurd (true≢false (sym 
       | inr here ↦ or_left _ _ (eq-eqb i b (omega arith))
     ]
 
--- the columns as the loop makes them
-pub first_columns : (cs : List ℕ) (m : ℕ) → Updated 64 (λ i. i) (replicate 64 0) cs → m ≤ 64 → take m cs ≡ range_with_len 0 m
-first_columns cs m u h =
-    let long : length (take m cs) ≡ m = length-take-le m cs (omega (arith, u.long)) in
+-- the first columns, 0, 1, 2 and so on
+pub first_columns : (cs : List ℕ) (m : ℕ) → length cs ≡ 64 → ((i : ℕ) → i < 64 → get_or cs i 0 ≡ i) → m ≤ 64 → take m cs ≡ range_with_len 0 m
+first_columns cs m l u h =
+    let long : length (take m cs) ≡ m = length-take-le m cs (omega arith) in
     ext_get_or 0 (take m cs) (range_with_len 0 m) (long ∙ sym (length-range_with_len 0 m)) (λ i g.
-    let k : i < m = omega arith in get_or-take m cs i 0 k ∙ u.new i (omega arith) (omega arith) ∙ sym (get_or-range_with_len 0 m i 0 k ∙ omega arith))
+    let k : i < m = omega arith in get_or-take m cs i 0 k ∙ u i (omega arith) ∙ sym (get_or-range_with_len 0 m i 0 k ∙ omega arith))
 
 pub fill_fits : (q : ℕ) (p : Numbers) → Ranges q p → fill_fault q p.columns (range_with_len 0 p.checks) (p.rows * p.columns) ≡ None
 fill_fits q p g =
@@ -54,14 +53,14 @@ fill_fits q p g =
     others_pass _ _ _ (check_false _ Width a) (check_false _ Columns b) ∙ check_false _ Length c
 
 -- the check columns are filled
-pub filled_checks : (f : FieldOps) (m p : Numbers) → m ≡ p → Ranges f.ring.order p → (cs xs ys : List ℕ) → Updated 64 (λ i. i) (replicate 64 0) cs
+pub filled_checks : (f : FieldOps) (m p : Numbers) → m ≡ p → Ranges f.ring.order p → (cs xs ys : List ℕ) → length cs ≡ 64 → ((i : ℕ) → i < 64 → get_or cs i 0 ≡ i)
     → length xs ≡ p.rows * p.columns → {r : Result (Unit {0}) FillFault} → r ≡ verdict (fill_fault f.ring.order m.columns (take (m.checks - 0) cs) (length xs))
     → MatchResult r (λ _. FilledRows f m.columns (take (m.checks - 0) cs) xs ys) (λ _. ys ≡ xs) → FilledRows f p.columns (range_with_len 0 p.checks) xs ys
-filled_checks f m p e g cs xs ys u long {r} = subst (λ (m : Numbers). r ≡ verdict (fill_fault f.ring.order m.columns (take (m.checks - 0) cs) (length xs))
+filled_checks f m p e g cs xs ys l u long {r} = subst (λ (m : Numbers). r ≡ verdict (fill_fault f.ring.order m.columns (take (m.checks - 0) cs) (length xs))
     → MatchResult r (λ _. FilledRows f m.columns (take (m.checks - 0) cs) xs ys) (λ _. ys ≡ xs) → FilledRows f p.columns (range_with_len 0 p.checks) xs ys) (sym e)
     (λ v k. subst (λ (ms : List ℕ). FilledRows f p.columns ms xs ys) columns
     (MatchResult-at_ok (λ _. FilledRows f p.columns (take (p.checks - 0) cs) xs ys) (λ _. ys ≡ xs) tt
     (v ∙ ap₂ (λ (ms : List ℕ) (size : ℕ). verdict (fill_fault f.ring.order p.columns ms size)) columns long ∙ ap verdict (fill_fits f.ring.order p g)) k))
   where
     columns : take (p.checks - 0) cs ≡ range_with_len 0 p.checks
-    columns = ap (λ (k : ℕ). take k cs) (sub-zero p.checks) ∙ first_columns cs p.checks u g.checks_few
+    columns = ap (λ (k : ℕ). take k cs) (sub-zero p.checks) ∙ first_columns cs p.checks l u g.checks_few

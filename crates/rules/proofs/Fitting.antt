@@ -1,14 +1,14 @@
--- What holds where nothing stands against a write, a read or a scrub.
+-- What holds where nothing stands against a write, and where the readings are levels.
 use Rattle.std.proofs.Common.{◌≡◌, ℕ, ◌-◌, ◌≤◌, Bool, not, ◌&&◌, leb, List, length, get_or, None, sym, ap, ◌∙◌, ap₂, arith}
 use Rattle.std.proofs.lemmas.Nat.{mul-le}
 use Rattle.std.proofs.lemmas.Bool.{leb-false}
 use Rattle.basics.specs.Checks.{lowest, ◌or_else◌}
-use Rattle.basics.proofs.Checking.{check_none, lowest_none, first_passes, others_pass}
+use Rattle.basics.proofs.Checking.{check_none, lowest_none, others_pass}
 use Rattle.plans.specs.Orders.{Ranges}
 use Rattle.rules.specs.Pages.{Setup, State, Buffers, q, cell_count, symbol_count}
-use Rattle.rules.specs.Calls.{write, read, scrub, fault, handed, buffers_fault, symbol_fault, height_fault, reading_fault}
+use Rattle.rules.specs.Calls.{write, fault, handed, buffers_fault, symbol_fault, height_fault, reading_fault}
 use Rattle.rules.specs.Reach.{levels}
-use Rattle.rules.specs.Views.{FitsWrite, FitsRead, FitsCells}
+use Rattle.rules.specs.Views.{FitsWrite, Readable, readings_fault}
 
 module _ (p : Setup) (g : Ranges (q p) p.numbers) where
   -- a page has few cells, and fewer symbols
@@ -29,28 +29,12 @@ module _ (p : Setup) (g : Ranges (q p) p.numbers) where
     heights_in = λ j i. leb-false p.numbers.heights _ (check_none _ _ (lowest_none (height_fault p b.heights) (length b.heights) 0 j f (omega arith) (omega arith)));
   }
 
-  pub fits_cells : (s : State) → length s.cells ≡ cell_count p → lowest 0 (length s.cells) (reading_fault p s) ≡ None → FitsCells p s
-  fits_cells s c e = record {
-    ranges = g;
-    cells_fit = c;
-    readable = record {
-      below = λ i l u. leb-false (levels p) _ (ap (λ (t : Bool). not t && leb (levels p) (get_or s.cells i 0)) (sym u)
-          ∙ check_none _ _ (lowest_none (reading_fault p s) (length s.cells) 0 i e (omega arith) (omega arith)));
-    };
-  }
-
-  pub fits_read : (s : State) (b : Buffers) → length s.cells ≡ cell_count p → length b.symbols ≡ symbol_count p → length b.heights ≡ cell_count p
-      → lowest 0 (length s.cells) (reading_fault p s) ≡ None → FitsRead p s b
-  fits_read s b c m h e =
-      record { ranges = g; cells_fit = c; symbols_fit = m; heights_fit = h; readable = (fits_cells s c e).readable }
-
--- where the lengths fit, the readings decide
-pub read_fault : (p : Setup) (s : State) (b : Buffers) → handed p s ≡ None → buffers_fault p b ≡ None → length s.cells ≡ cell_count p
-    → fault p s (read b) ≡ lowest 0 (length s.cells) (reading_fault p s)
-read_fault p s b e f c = others_pass (handed p s) (buffers_fault p b) _ e f ∙ ap (λ (m : ℕ). lowest 0 m (reading_fault p s)) (sym c)
-
-pub scrub_fault : (p : Setup) (s : State) → handed p s ≡ None → length s.cells ≡ cell_count p → fault p s scrub ≡ lowest 0 (length s.cells) (reading_fault p s)
-scrub_fault p s e c = first_passes (handed p s) _ e ∙ ap (λ (m : ℕ). lowest 0 m (reading_fault p s)) (sym c)
+-- where no reading is refused, every unmarked cell reads a level
+pub readable : (p : Setup) (s : State) → length s.cells ≡ cell_count p → readings_fault p s ≡ None → Readable p s
+readable p s c e = record {
+  below = λ i l u. leb-false (levels p) _ (ap (λ (t : Bool). not t && leb (levels p) (get_or s.cells i 0)) (sym u)
+      ∙ check_none _ _ (lowest_none (reading_fault p s) (cell_count p) 0 i e (omega arith) (omega arith)));
+}
 
 -- where the lengths fit, symbols and heights decide
 pub write_fault : (p : Setup) (s : State) (b : Buffers) → handed p s ≡ None → buffers_fault p b ≡ None → length b.symbols ≡ symbol_count p → length b.heights ≡ cell_count p

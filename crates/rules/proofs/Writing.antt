@@ -1,10 +1,12 @@
 -- A write leaves the one page of levels that has its contents and code rows.
-use Rattle.std.proofs.Common.{◌≡◌, ℕ, ◌+◌, ◌*◌, ◌/◌, ◌%◌, ◌<◌, ◌≤◌, List, length, get_or, sym, ap, ◌∙◌, subst, ap₂, add-mul, div-add-mod', arith}
+use Rattle.std.proofs.Common.{◌≡◌, ℕ, ◌+◌, ◌*◌, ◌/◌, ◌%◌, ◌<◌, ◌≤◌, List, ◌++◌, length, get_or, take, drop, sym, ap, ◌∙◌, subst, ap₂, inl, inr, add-mul, div-add-mod', arith}
 use lib.Arith.{digits_lt}
 use Rattle.std.specs.List.{range_with_len}
 use Rattle.std.proofs.lemmas.Nat.{mul-le}
 use Rattle.std.proofs.lemmas.List.FromFn.{length-range_with_len, fill_by_all, get_or-map-range_with_len}
-use Rattle.std.proofs.lemmas.List.{get_or-map, length-map, ext_get_or}
+use Rattle.std.proofs.Math.Seq.{take-length, drop-length}
+use Rattle.std.proofs.lemmas.List.{get_or-map, length-map, length-drop, take-append-le, drop-append-le, drop-drop, ext_get_or}
+use Rattle.std.proofs.lemmas.Bool.{cases_lt}
 use Rattle.std.proofs.lemmas.Bool.Decides.{nat_tests}
 use Rattle.basics.specs.Lists.{Updated, row_of}
 use Rattle.fields.specs.Rings.{taken}
@@ -27,6 +29,21 @@ pub record Steps (p : Setup) (b : Buffers) (cells laid filled levels : List ℕ)
 -- a row of a page ends within it
 pub row_fits : (p : Setup) (k : ℕ) → k < p.numbers.rows → k * n p + n p ≤ cell_count p
 row_fits p k h = omega (arith, mul-le (k + 1) (n p) p.numbers.rows (n p) (omega arith) (omega arith), add-mul k 1 (n p))
+
+-- a row that is taken off the front of what is left of a page is the next one
+pub row_taken : (n k : ℕ) (xs row rest : List ℕ) → drop (k * n) xs ≡ row ++ rest → length row ≡ n → (row ≡ row_of n k xs) × (rest ≡ drop ((k + 1) * n) xs)
+row_taken n k xs row rest e l =
+    let f : k * n + n ≡ (k + 1) * n = omega (arith, add-mul k 1 n) in (
+      sym (ap (take n) e ∙ take-append-le n row rest (omega arith) ∙ ap (λ m. take m row) (sym l) ∙ take-length row),
+      sym (ap (λ m. drop m xs) (sym f) ∙ sym (drop-drop n (k * n) xs) ∙ ap (drop n) e ∙ drop-append-le n row rest (omega arith) ∙ ap (λ m. drop m row ++ rest) (sym l) ∙ ap (λ t. t ++ rest) (drop-length row)),
+    )
+
+-- fewer columns than a row's are left of a page only after its last row
+pub row_left : (p : Setup) (xs : List ℕ) → length xs ≡ cell_count p → (k : ℕ) (rest : List ℕ) → rest ≡ drop (k * n p) xs → length rest < n p → p.numbers.rows ≤ k
+row_left p xs e k rest f h = elim (cases_lt k p.numbers.rows) [
+  | inl lt ↦ absurd (omega (arith, row_fits p k lt, ap length f, length-drop (k * n p) xs))
+  | inr ge ↦ ge
+]
 
 -- and has as many columns as the page
 pub row_width : (p : Setup) (xs : List ℕ) → length xs ≡ cell_count p → (k : ℕ) → k < p.numbers.rows → length (row_of (n p) k xs) ≡ n p

@@ -1,6 +1,6 @@
 -- What the code's values mean to the rules.
-use Rattle.std.specs.Prelude.{◌≡◌, ℕ, ◌+◌, ◌-◌, ◌*◌, ◌/◌, ◌%◌, ◌<◌, ◌≤◌, true, false, cond, List, length, take, Ok, Err, Option, Result, nat_lt, slice_index}
-use Rattle.basics.specs.Checks.{check, ◌or_else◌}
+use Rattle.std.specs.Prelude.{◌≡◌, ℕ, ◌+◌, ◌-◌, ◌*◌, ◌/◌, ◌%◌, ◌<◌, ◌≤◌, true, false, cond, ◌⊎◌, List, length, take, Some, None, Ok, Err, Option, Result, nat_lt, slice_index}
+use Rattle.basics.specs.Checks.{check, ◌or_else◌, lowest}
 use Rattle.basics.specs.Lists.{row_of}
 use Rattle.algebra.specs.Rows.{CloseRow, taken_row, among}
 use Rattle.fields.specs.Rings.{RingOps, FieldOps}
@@ -14,8 +14,8 @@ use Rattle.plans.specs.declared.fault.OrderFault.TheVariants.{Kind}
 use Rattle.plans.specs.Orders.{order_fault, outside, Ranges}
 use Rattle.rules.specs.Refusals.{page_refusal}
 use Rattle.rules.specs.Pages.{Setup, State, Buffers, q, n, r, cell_count, symbol_count}
-use Rattle.rules.specs.Reach.{levels, dead, drift, drift_fault, RowReach, Found, Unfound}
-use Rattle.rules.specs.Calls.{Answer, refused, done, counted, event, read, scrub, brought, Step}
+use Rattle.rules.specs.Reach.{levels, dead, drift, drifted, risen, drift_fault, RowReach, Found, Unfound}
+use Rattle.rules.specs.Calls.{Answer, refused, done, counted, event, read, scrub, brought, reading_fault, Step}
 use Rattle.rules.specs.declared.fault.PageFault.{PageFault}
 
 -- the marked columns
@@ -77,20 +77,6 @@ level_at q heights symbols i = slice_index heights i * q + slice_index symbols i
 pub record Readable (p : Setup) (s : State) : Type 0 where
   pub below : (i : ℕ) → i < length s.cells → dead p s.marking i ≡ false → slice_index s.cells i < levels p
 
--- what holds where nothing stands against a read, but for what decoding says
-pub record FitsRead (p : Setup) (s : State) (b : Buffers) : Type 0 where
-  pub ranges : Ranges (q p) p.numbers
-  pub cells_fit : length s.cells ≡ cell_count p
-  pub symbols_fit : length b.symbols ≡ symbol_count p
-  pub heights_fit : length b.heights ≡ cell_count p
-  pub readable : Readable p s
-
--- and against a scrub
-pub record FitsCells (p : Setup) (s : State) : Type 0 where
-  pub ranges : Ranges (q p) p.numbers
-  pub cells_fit : length s.cells ≡ cell_count p
-  pub readable : Readable p s
-
 -- the rows below row good are the code rows that are close enough; if it is a row of the page, no code row is close enough to it
 pub record CorrectedTo (p : Setup) (ms : List ℕ) (good : ℕ) (xs ys : List ℕ) : Type 0 where
   pub long : length ys ≡ length xs
@@ -98,13 +84,18 @@ pub record CorrectedTo (p : Setup) (ms : List ℕ) (good : ℕ) (xs ys : List �
   pub before : (k : ℕ) → k < good → CloseRow p.field (r p) ms (taken_row (q p) (row_of (n p) k xs)) (row_of (n p) k ys)
   pub none : good < p.numbers.rows → (cs : List ℕ) → CloseRow p.field (r p) ms (taken_row (q p) (row_of (n p) good xs)) cs → ⊥
 
--- the row that a fault of correcting names
-abbrev pub row_lost : CorrectFault → ℕ
-row_lost Width = 0
-row_lost Checks = 0
-row_lost Marking = 0
-row_lost Length = 0
-row_lost (Lost k) = k
+-- the row that a fault of correcting names, if it names one
+abbrev pub row_lost : CorrectFault → Option ℕ
+row_lost Width = None
+row_lost Checks = None
+row_lost Marking = None
+row_lost Length = None
+row_lost (Lost k) = Some k
+
+-- how many rows come before the lost one: all, where none is lost
+abbrev pub rows_before : Setup → Option ℕ → ℕ
+rows_before p None = p.numbers.rows
+rows_before p (Some k) = k
 
 -- what is wrong with the drifts of row k, from the symbols in page
 abbrev pub row_drift : Setup → List ℕ → List ℕ → List ℕ → ℕ → Option PageFault
@@ -123,6 +114,16 @@ pub record RowFound (p : Setup) (ms ys xs : List ℕ) : Type 0 where
 abbrev pub PageDecoded : Setup → State → List ℕ → Result (Unit {0}) PageFault → Type 0
 PageDecoded p s xs (Ok _) = Found p s xs
 PageDecoded p s xs (Err f) = Unfound p s f
+
+-- the lowest unmarked cell that reads no level
+abbrev pub readings_fault : Setup → State → Option PageFault
+readings_fault p s = lowest 0 (cell_count p) (reading_fault p s)
+
+-- what looking at the readings, decoding them into the page xs and counting what drifted came to
+abbrev pub Recovered : Setup → State → List ℕ → Result (ℕ × ℕ) PageFault → Type 0
+Recovered p s xs (Ok c) =
+    (readings_fault p s ≡ None) × Found p s xs × (c.0 ≡ drifted p s.marking s.cells xs) × (c.1 ≡ risen p s.marking s.cells xs)
+Recovered p s xs (Err f) = (readings_fault p s ≡ Some f) ⊎ ((readings_fault p s ≡ None) × Unfound p s f)
 
 -- what a read answers and leaves
 abbrev pub Reads : Setup → State → Buffers → Result (ℕ × ℕ) PageFault → Buffers → Type 0

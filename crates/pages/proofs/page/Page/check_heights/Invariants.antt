@@ -7,5 +7,5 @@ use Rattle.pages.proofs.page.Page.check_heights.Given as goal
 -- the places that are left decide
 abbrev pub invariant-loop-i : goal.invariant-loop-i
 invariant-loop-i g l =
-    let at = height_fault (over g.F.Ring.ops g.F.Field.points l.self) l.heights in
+    let at = height_fault (over l.self) l.heights in
     lowest 0 (length l.heights) at ≡ lowest l.i (length l.heights - l.i) at

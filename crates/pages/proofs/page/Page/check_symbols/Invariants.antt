@@ -7,5 +7,5 @@ use Rattle.pages.proofs.page.Page.check_symbols.Given as goal
 -- the places that are left decide
 abbrev pub invariant-loop-j : goal.invariant-loop-j
 invariant-loop-j g l =
-    let at = symbol_fault (over g.F.Ring.ops g.F.Field.points l.self) l.symbols in
+    let at = symbol_fault (over l.self) l.symbols in
     lowest 0 (length l.symbols) at ≡ lowest l.j (length l.symbols - l.j) at

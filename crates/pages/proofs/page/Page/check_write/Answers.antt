@@ -10,17 +10,15 @@ use Rattle.pages.proofs.page.Page.check_write.Goals as goal
 
 pub check_symbols-requires : goal.check_symbols-requires
 check_symbols-requires g c =
-    let p = over g.F.Ring.ops g.F.Field.points c.args.self.now in let r = c.in_ok-check_cells.ensures.ranges in
-    (r, omega (arith, few_symbols p r, c.in_ok-check_buffers.ensures.sizes.0))
+    let p = over c.args.self.now in omega (arith, few_symbols p c.args.self.now.ranges, c.in_ok-check_buffers.ensures.sizes.0)
 
 pub check_heights-requires : goal.check_heights-requires
 check_heights-requires g c =
-    let p = over g.F.Ring.ops g.F.Field.points c.args.self.now in let r = c.in_ok-check_cells.ensures.ranges in
-    (r, omega (arith, few_cells p r, c.in_ok-check_buffers.ensures.sizes.1))
+    let p = over c.args.self.now in omega (arith, few_cells p c.args.self.now.ranges, c.in_ok-check_buffers.ensures.sizes.1)
 
 pub returns-in_err-check_symbols : goal.returns-in_err-check_symbols
 returns-in_err-check_symbols g c =
-    let p = over g.F.Ring.ops g.F.Field.points c.args.self.now in let s = state c.args.self.now.plan c.args.cells.now in
+    let p = over c.args.self.now in let s = state c.args.self.now.plan c.args.cells.now in
     let b = buffers c.args.symbols.now c.args.heights.now in
     let cells = c.in_ok-check_cells.ensures in let sizes = c.in_ok-check_buffers.ensures in
     let f = c.from_residual-in_err-check_symbols in let x = err_from_is_err_and f.result f.ensures.1 in
@@ -33,7 +31,7 @@ returns-in_err-check_symbols g c =
 
 pub returns : goal.returns
 returns g c =
-    let p = over g.F.Ring.ops g.F.Field.points c.args.self.now in let s = state c.args.self.now.plan c.args.cells.now in
+    let p = over c.args.self.now in let s = state c.args.self.now.plan c.args.cells.now in
     let b = buffers c.args.symbols.now c.args.heights.now in
     let cells = c.in_ok-check_cells.ensures in let sizes = c.in_ok-check_buffers.ensures in
     let heights = lowest 0 (length b.heights) (height_fault p b.heights) in
@@ -43,5 +41,5 @@ returns g c =
           write_fault p s b (none_from_verdict _ cells.fault) (none_from_verdict _ sizes.fault) sizes.sizes.0 sizes.sizes.1
           ∙ ap (λ o. o or_else heights) no_symbol));
       fits = made_verdict heights (FitsWrite p c.args.cells.now b) c.check_heights.ensures
-          (λ e. fits_write p cells.ranges c.args.cells.now b cells.size sizes.sizes.0 sizes.sizes.1 no_symbol e);
+          (λ e. fits_write p c.args.self.now.ranges c.args.cells.now b cells.size sizes.sizes.0 sizes.sizes.1 no_symbol e);
     }

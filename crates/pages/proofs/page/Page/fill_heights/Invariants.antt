@@ -6,5 +6,5 @@ use Rattle.pages.proofs.page.Page.fill_heights.Given as goal
 -- the first i heights stand
 abbrev pub invariant-loop-i : goal.invariant-loop-i
 invariant-loop-i g l =
-    let p = over g.F.Ring.ops g.F.Field.points l.self in
-    (k : ℕ) → k < l.i → get_or l.heights k 0 ≡ get_or l.page k 0 / q p
+    let p = over l.self in
+    (k : ℕ) → k < l.i → get_or l.heights k 0 ≡ get_or l.levels k 0 / q p

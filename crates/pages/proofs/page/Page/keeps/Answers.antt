@@ -5,7 +5,7 @@ use Rattle.pages.proofs.page.Page.keeps.Goals as goal
 
 pub returns : goal.returns
 returns g c =
-    let p = over g.F.Ring.ops g.F.Field.points c.args.self.now in let s = c.args.self.now in
+    let p = over c.args.self.now in let s = c.args.self.now in
     let laws = g.met.F.Ring.ring s.field in
     record {
       law = readings p (g.F.Field.inv s.field) laws c.inverse.ensures.rule c.point.ensures.rule;

@@ -4,4 +4,4 @@ use Rattle.pages.specs.Views.{over}
 use Rattle.pages.proofs.page.Page.lay_symbols.Given as goal
 
 abbrev pub invariant-loop-i : goal.invariant-loop-i
-invariant-loop-i g l = Updated l.i (laid_entry (over g.F.Ring.ops g.F.Field.points l.self) l.symbols) l.initial.cells l.cells
+invariant-loop-i g l = Updated l.i (laid_entry (over l.self) l.symbols) l.initial.cells l.cells

@@ -1,7 +1,7 @@
 use Rattle.std.proofs.Common.{◌≡◌, ℕ, ◌+◌, ◌-◌, true, length, get_or, sym, ap, ◌∙◌, arith}
 use Rattle.std.proofs.lemmas.Bool.{or_left, le-leb}
 use Rattle.basics.specs.Checks.{check, verdict}
-use Rattle.basics.proofs.Checking.{lowest_stop, lowest_more, lowest_all, check_false}
+use Rattle.basics.proofs.Checking.{lowest_stop, lowest_more, loop_ends, check_false}
 use Rattle.plans.specs.Marks.{wrong_column}
 use Rattle.plans.specs.declared.fault.MarkingFault.TheVariants.{Column}
 use Rattle.plans.proofs.Marking.{column_low, column_fine}
@@ -31,4 +31,4 @@ loop-i-preserved c =
 pub returns : goal.returns
 returns c =
     let xs = c.args.marking.now in let l = c.loop-i in
-    ap verdict (sym (l.invariant.0 ∙ lowest_all (λ i. check (wrong_column c.args.self.now.columns xs i) (Column i)) (length xs) l.i (omega arith)))
+    loop_ends (λ i. check (wrong_column c.args.self.now.columns xs i) (Column i)) (length xs) l.i l.invariant.0 (omega arith)
