@@ -1,9 +1,9 @@
 -- What the checks of opening say.
-use Rattle.std.proofs.Common.{◌≡◌, ℕ, ◌+◌, ◌-◌, ◌*◌, ◌≤◌, min, List, ◌++◌, length, get_or, take, drop, replicate, Some, None, Option, sym, refl, ◌∙◌, subst, inl, inr, le_trans, arith}
+use Rattle.std.proofs.Common.{◌≡◌, ℕ, ◌+◌, ◌-◌, ◌*◌, ◌≤◌, min, Bool, true, false, not, ◌&&◌, eqb, List, ◌++◌, length, get_or, take, drop, replicate, Some, None, Option, sym, refl, ap, ◌∙◌, subst, ap₂, inl, inr, le_trans, arith}
 use Rattle.std.proofs.lemmas.Nat.{mul-le}
 use Rattle.std.proofs.lemmas.List.FromFn.{length-map-range_with_len}
 use Rattle.std.proofs.lemmas.List.{get_or-take, get_or-drop, get_or_past, get_or-replicate, get_or_append_left, get_or-append_right, length-replicate, length-take-le}
-use Rattle.std.proofs.lemmas.Bool.{cases_lt, ltb-false, or_parts}
+use Rattle.std.proofs.lemmas.Bool.{cases_lt, ltb-false, ne_eqb, or_parts}
 use Rattle.basics.specs.Checks.{check, ◌or_else◌, told}
 use Rattle.basics.proofs.Checking.{both_none, check_none, some_first}
 use Rattle.fields.specs.Kinds.{order_of}
@@ -17,9 +17,9 @@ use Rattle.images.specs.Format.{cell_count}
 use Rattle.images.proofs.Sealing.{tabled_is}
 
 -- the first entries of a table
-pub tabled_take : (m n k : ℕ) (f : ℕ → ℕ) → m ≤ n → k ≡ m → take k (tabled n f) ≡ tabled m f
-tabled_take m n k f h e = tabled_is m f (take k (tabled n f)) (length-take-le k (tabled n f) (omega (arith, length-map-range_with_len f 0 n)) ∙ e)
-    (λ i l. get_or-take k (tabled n f) i 0 (omega arith) ∙ tabled_at n f i (omega arith))
+pub tabled_take : (m n : ℕ) (f : ℕ → ℕ) → m ≤ n → take m (tabled n f) ≡ tabled m f
+tabled_take m n f h = tabled_is m f (take m (tabled n f)) (length-take-le m (tabled n f) (omega (arith, length-map-range_with_len f 0 n)))
+    (λ i l. get_or-take m (tabled n f) i 0 (omega arith) ∙ tabled_at n f i (omega arith))
 
 -- a fault that is told stands where one is
 pub told_none : {F G : Type 0} (g : F → G) (o : Option F) → told g o ≡ None → o ≡ None
@@ -45,6 +45,17 @@ rows_inside m p e g row h = mul-le row m.columns 32 256
 pub some_of_two : {F : Type 0} (a b c : Option F) (f : F) → (a or_else b) ≡ Some f → (a or_else (b or_else c)) ≡ Some f
 some_of_two (Some g) b c f e = e
 some_of_two None b c f e = some_first b c f e
+
+-- a place is wrong where it is filler and does not hold 0
+pub soiled : (t : Bool) (x : ℕ) → t ≡ true → (x ≡ 0 → ⊥) → (t && not (eqb x 0)) ≡ true
+soiled t x e h = ap₂ (λ s z. s && not z) e (ne_eqb x 0 h)
+
+pub clean_place : (t : Bool) (x : ℕ) → t ≡ false → (t && not (eqb x 0)) ≡ false
+clean_place t x e = ap (λ s. s && not (eqb x 0)) e
+
+pub clean_byte : (t : Bool) (x : ℕ) → x ≡ 0 → (t && not (eqb x 0)) ≡ false
+clean_byte true x e = ap (λ y. not (eqb y 0)) e
+clean_byte false x e = refl
 
 -- bytes with zeros after them read as the bytes do
 pub padded : (xs : List ℕ) (k m : ℕ) → length xs ≡ k → (i : ℕ) → get_or (xs ++ drop k (replicate m 0)) i 0 ≡ get_or xs i 0

@@ -1,4 +1,4 @@
-use Rattle.std.proofs.Common.{◌-◌, ◌≤◌, take, IfOk, Err, sym, ap, ◌∙◌, subst, ap₂, arith}
+use Rattle.std.proofs.Common.{take, IfOk, Err, sym, ap, ◌∙◌, subst, ap₂, arith}
 use Rattle.std.proofs.lemmas.Result.{err_from_is_err_and}
 use Rattle.basics.specs.Checks.{◌or_else◌, told, fault_of}
 use Rattle.fields.specs.Numbered.{number_of}
@@ -10,24 +10,22 @@ use Rattle.images.specs.declared.fault.ImageFault.TheVariants.{Header, Marking}
 use Rattle.images.proofs.Opening.{tabled_take}
 use Rattle.images.proofs.open.Raw.page.Goals as goal
 
-pub returns-in_err-marked : goal.returns-in_err-marked
-returns-in_err-marked c =
+pub returns-in_err-with_marking : goal.returns-in_err-with_marking
+returns-in_err-with_marking c =
     let at = bytes_at c.args.self.now.bytes in let ordered = c.in_ok-page.ensures in
-    let few : at 14 ≤ 256 = omega arith in
-    let ms = ap (take (at 14 - 0)) c.columns-columns.ensures ∙ tabled_take (at 14) 256 (at 14 - 0) _ few (omega arith) in
-    let x = err_from_is_err_and c.from_residual-in_err-marked.result c.from_residual-in_err-marked.ensures.1 in
+    let ms = ap (take (at 14)) c.columns-columns.ensures ∙ tabled_take (at 14) 256 _ (omega arith) in
+    let x = err_from_is_err_and c.from_residual-in_err-with_marking.result c.from_residual-in_err-with_marking.ensures.1 in
     let r = x.1 ∙ ap Err x.2 in
     record {
       fault = ap fault_of r ∙ ap₂ (λ a b. told Header a or_else told Marking b) (ordered.fault ∙ ap (kind_fault (at 5)) c.numbers.ensures)
-          (c.in_err-marked.ensures.fault ∙ ap₂ marking_fault (ordered.page.1 ∙ c.numbers.ensures) ms);
+          (c.in_err-with_marking.ensures.fault ∙ ap₂ marking_fault (ordered.page.1 ∙ c.numbers.ensures) ms);
       page = subst (λ v. IfOk v (Shows at)) (sym r) tt;
     }
 
 pub returns : goal.returns
 returns c =
-    let at = bytes_at c.args.self.now.bytes in let ordered = c.in_ok-page.ensures in let marked = c.in_ok-marked.ensures in
-    let few : at 14 ≤ 256 = omega arith in
-    let ms = ap (take (at 14 - 0)) c.columns-columns.ensures ∙ tabled_take (at 14) 256 (at 14 - 0) _ few (omega arith) in
+    let at = bytes_at c.args.self.now.bytes in let ordered = c.in_ok-page.ensures in let marked = c.in_ok-with_marking.ensures in
+    let ms = ap (take (at 14)) c.columns-columns.ensures ∙ tabled_take (at 14) 256 _ (omega arith) in
     let en = ordered.page.1 ∙ c.numbers.ensures in
     record {
       fault = ap₂ (λ a b. told Header a or_else told Marking b) (ordered.fault ∙ ap (kind_fault (at 5)) c.numbers.ensures) (marked.fault ∙ ap₂ marking_fault en ms);
