@@ -1,5 +1,5 @@
 // Opening: a raw image is looked at, and only an opened one gives its page and its rows.
-ghost use Rattle.std.specs.Prelude.{◌≡◌, ℕ, ◌+◌, ◌*◌, ◌/◌, ◌%◌, ◌<◌, ◌≤◌, not, ◌||◌, length, IfOk, OnOk, ◌==◌, slice_index};
+ghost use Rattle.std.specs.Prelude.{◌≡◌, ℕ, ◌+◌, ◌*◌, ◌/◌, ◌%◌, ◌<◌, ◌≤◌, not, ◌||◌, length, take, IfOk, OnOk, ◌==◌, slice_index};
 ghost use Rattle.basics.specs.Checks.{check, ◌or_else◌, lowest, told, verdict, fault_of};
 ghost use Rattle.fields.specs.Numbered.{number_of};
 ghost use Rattle.plans.specs.Orders.{outside};
@@ -111,9 +111,9 @@ impl Raw {
         }
     }
 
-    // The columns that the header names as marked, with more after them.
+    // The columns that the header names as marked, and more after them.
     fn columns(&self) -> [u16; 256]
-        ensures { result ≡ tabled 256 (λ i. word_at (bytes_at self.now.bytes) (16 + 2 * i)) }
+        ensures { (count : ℕ) → count ≤ 256 → take count result ≡ tabled count (λ i. word_at (bytes_at self.now.bytes) (16 + 2 * i)) }
     {
         array::from_fn(|i| word(&self.bytes, 16 + 2 * i))
     }
