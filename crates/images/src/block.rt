@@ -56,28 +56,16 @@ fn head_bytes(kind: u8, numbers: Numbers, count: usize) -> [u8; 16]
     requires count { count < 256 }
     ensures { result ≡ bytes_of_head kind numbers count }
 {
-    let word = FIRST_BYTES;
-    let columns = numbers.columns.to_le_bytes();
-    let heights = numbers.heights.to_le_bytes();
-    let drift = numbers.drift.to_le_bytes();
-    [
-        word[0],
-        word[1],
-        word[2],
-        word[3],
-        word[4],
-        kind,
-        columns[0],
-        columns[1],
-        numbers.checks as u8,
-        numbers.rows as u8,
-        heights[0],
-        heights[1],
-        drift[0],
-        drift[1],
-        count as u8,
-        0,
-    ]
+    let mut head = [0; 16];
+    head[..5].copy_from_slice(&FIRST_BYTES);
+    head[5] = kind;
+    head[6..8].copy_from_slice(&numbers.columns.to_le_bytes());
+    head[8] = numbers.checks as u8;
+    head[9] = numbers.rows as u8;
+    head[10..12].copy_from_slice(&numbers.heights.to_le_bytes());
+    head[12..14].copy_from_slice(&numbers.drift.to_le_bytes());
+    head[14] = count as u8;
+    head
 }
 
 // Byte j of block 0, before its check.

@@ -14,7 +14,7 @@ ghost use Rattle.images.specs.declared.fault.ImageFault.TheVariants.{Length, Hea
 
 use crate::block::{FIRST_BYTES, is_sealed};
 use crate::fault::ImageFault;
-use crate::size::{check_cells, image_size, level_blocks};
+use crate::size::{check_cells, level_blocks};
 use fields::KindField;
 use pages::page::{Page, order_kind};
 use plans::numbers::Numbers;
@@ -123,8 +123,9 @@ impl Raw {
         requires { cells ≤ 8192 }
         ensures { result ≡ verdict (check (not (self.now.size == 512 * (1 + blocks_of_levels cells))) (Blocks (1 + blocks_of_levels cells))) }
     {
-        if self.size != image_size(cells) {
-            return Err(ImageFault::Blocks(1 + level_blocks(cells) as u16));
+        let wanted = 1 + level_blocks(cells);
+        if self.size != 512 * wanted {
+            return Err(ImageFault::Blocks(wanted as u16));
         }
         Ok(())
     }

@@ -9,7 +9,7 @@ ghost use Rattle.images.specs.Saving.{BlockSet, OrKept, count_after, LevelsSet, 
 
 use crate::block::{Block, head_block, level_block};
 use crate::fault::SaveFault;
-use crate::size::{check_cells, image_size, level_blocks};
+use crate::size::{check_cells, level_blocks};
 use fields::KindField;
 use pages::page::Page;
 use rules::fault::{Buffer, PageFault};
@@ -50,7 +50,7 @@ fn check_image(cells: usize, image: &[u8]) -> Result<(), SaveFault>
     ensures fault { result ≡ verdict (image_fault cells (length image.now)) }
     ensures size { OnOk result (length image.now ≡ 512 * (1 + blocks_of_levels cells)) }
 {
-    if image.len() != image_size(cells) {
+    if image.len() != 512 * (1 + level_blocks(cells)) {
         return Err(SaveFault::Page(PageFault::Length(Buffer::Image)));
     }
     Ok(())

@@ -1,5 +1,5 @@
-// How long an image is, and buffers of another length than is wanted.
-ghost use Rattle.std.specs.Prelude.{◌≡◌, ℕ, ◌+◌, ◌*◌, ◌<◌, ◌≤◌, not, length, OnOk, ◌==◌};
+// How many blocks the readings of a page take, and cells of another number than is wanted.
+ghost use Rattle.std.specs.Prelude.{◌≡◌, not, length, OnOk, ◌==◌};
 ghost use Rattle.basics.specs.Checks.{check, verdict};
 ghost use Rattle.rules.specs.declared.fault.Buffer.TheVariants.{Cells};
 ghost use Rattle.rules.specs.declared.fault.PageFault.TheVariants.{Length};
@@ -12,14 +12,6 @@ pub(crate) fn level_blocks(cells: usize) -> usize
     ensures { result ≡ blocks_of_levels cells }
 {
     cells.div_ceil(254)
-}
-
-// How many bytes the image of this many cells has.
-pub(crate) fn image_size(cells: usize) -> usize
-    requires { cells ≤ 8192 }
-    ensures { result ≡ 512 * (1 + blocks_of_levels cells) }
-{
-    512 * (1 + level_blocks(cells))
 }
 
 // Another number of cells than is wanted.
