@@ -25,12 +25,6 @@ pub sealed_high : (b : ℕ) (f : ℕ → ℕ) (j : ℕ) → 508 ≤ j → sealed
 unfolding sealed_at
 sealed_high b f j h = ap (λ t. cond t (f j) (get_or (four_bytes (check_value b f)) (j - 508) 0)) (le-ltb j 508 h)
 
-pub sealed_same : (b : ℕ) (f g : ℕ → ℕ) → ((j : ℕ) → j < 508 → f j ≡ g j) → (j : ℕ) → sealed_at b f j ≡ sealed_at b g j
-sealed_same b f g h j = elim (cases_lt j 508) [
-  | inl l ↦ sealed_low b f j l ∙ h j l ∙ sym (sealed_low b g j l)
-  | inr l ↦ sealed_high b f j l ∙ ap (λ x. get_or (four_bytes x) (j - 508) 0) (check_same b f g h) ∙ sym (sealed_high b g j l)
-]
-
 -- a list by its places
 pub tabled_is : (m : ℕ) (f : ℕ → ℕ) (xs : List ℕ) → length xs ≡ m → ((i : ℕ) → i < m → get_or xs i 0 ≡ f i) → xs ≡ tabled m f
 tabled_is m f xs e h = ext_get_or 0 xs (tabled m f) (e ∙ sym (length-map-range_with_len f 0 m)) (λ i l. h i (omega (arith, e)) ∙ sym (tabled_at m f i (omega (arith, e))))

@@ -8,6 +8,7 @@ use plans::numbers::Numbers;
 // The first word of every image, and its edition.
 pub(crate) const FIRST_BYTES: [u8; 5] = *b"ALMP\x01";
 
+// A block of an image.
 pub(crate) type Block = [u8; 512];
 
 // The check of block b: 1 + b + the sum of (j + 1) × byte j, for j from 0 to 507.

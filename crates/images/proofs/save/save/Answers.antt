@@ -5,7 +5,7 @@ use Rattle.rules.specs.Views.{of_kind}
 use Rattle.images.specs.Format.{blocks_of_levels, cell_count, image_of}
 use Rattle.images.specs.Saving.{LevelsSet, count_after, closed, stored}
 use Rattle.images.proofs.Imaging.{begins_head, begins_more, begins_all}
-use Rattle.images.proofs.Saving.{put_fine, close_fine, begun_size, accepted, kept_or}
+use Rattle.images.proofs.Saving.{put_fine, close_fine, begun_size, save_fine, accepted, kept_or}
 use Rattle.images.proofs.save.save.Goals as goal
 
 pub loop-block-init : goal.loop-block-init
@@ -34,8 +34,8 @@ loop-block-preserved c =
       begins_more s l._block l.image c.put.new.image l.invariant.4 (subst (λ (b : ℕ). LevelsSet b c.args.cells.now l.image c.put.new.image) l.invariant.0 set),
     )
 
-pub returns-clause-image : goal.returns-clause-image
-returns-clause-image c =
+pub returns : goal.returns
+returns c =
     let l = c.loop-block in let page = c.args.page.now in let s = stored (number_of page.field) page.plan c.args.cells.now in
     let p = of_kind (number_of page.field) page.plan.numbers in let b = c.in_ok-begun.ensures in
     let count : length c.args.cells.now ≡ cell_count page.plan.numbers = c.in_ok-check_cells.ensures.size ∙ c.cell_count.ensures ∙ ap cell_count c.numbers.ensures in
@@ -43,6 +43,9 @@ returns-clause-image c =
     let all : l._block ≡ blocks_of_levels (length c.args.cells.now) = omega (arith, c.loop-block-test.false, l.auto._block-end, c.level_blocks-block-end.ensures) in
     let fine = close_fine l.begun.cells l.begun.put (length l.image) size (omega (arith, l.invariant.0, ap blocks_of_levels l.invariant.1, all)) in
     let ok : c.close.result ≡ Ok tt = c.close.ensures.fault ∙ ap verdict fine in
-    kept_or tt c.args.image.now c.close.new.image (c.close.new.image ≡ image_of s) ok
-    (c.close.ensures.image ∙ ap (λ o. closed o l.image) fine
-    ∙ begins_all s (1 + l._block) l.image (omega (arith, all, ap blocks_of_levels count)) (omega (arith, l.invariant.3, ap blocks_of_levels count)) l.invariant.4)
+    record {
+      fault = ok ∙ ap verdict (sym (save_fine p (length c.args.cells.now) (length c.args.image.now) b.fault count));
+      image = kept_or tt c.args.image.now c.close.new.image (c.close.new.image ≡ image_of s) ok
+          (c.close.ensures.image ∙ ap (λ o. closed o l.image) fine
+          ∙ begins_all s (1 + l._block) l.image (omega (arith, all, ap blocks_of_levels count)) (omega (arith, l.invariant.3, ap blocks_of_levels count)) l.invariant.4);
+    }
