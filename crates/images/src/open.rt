@@ -21,18 +21,20 @@ use plans::numbers::Numbers;
 use rules::fault::PageFault;
 use std::array;
 
-// An image as it came, and how many bytes it has. They are kept by value, since there is no heap: no more than 34 blocks of
-// them, while more may have come.
+// The bytes of an image, which has no more than 34 blocks. They are kept by value, in fixed memory, since there is no heap.
+type Bytes = [u8; 17408];
+
+// An image as it came: as much of it as is kept, and how many bytes it has, which may be more.
 #[derive(Drop)]
 pub struct Raw {
-    bytes: [u8; 17408],
+    bytes: Bytes,
     size: usize,
 }
 
 // An image that was looked at and is one, with the page that it shows.
 #[derive(Drop)]
 pub struct Opened {
-    bytes: [u8; 17408],
+    bytes: Bytes,
     page: Page<KindField>,
 }
 
@@ -183,7 +185,7 @@ impl Raw {
 }
 
 // As many of the bytes as an image can have, and zeros after them.
-fn kept(bytes: &[u8]) -> [u8; 17408]
+fn kept(bytes: &[u8]) -> Bytes
     ensures { length bytes.now ≤ 17408 → (i : ℕ) → slice_index result i ≡ slice_index bytes.now i }
 {
     let mut copy = [0; 17408];
@@ -215,7 +217,7 @@ impl Opened {
         self.page
     }
 
-    // Reading c.
+    // Reading c: a level block holds 254 of them.
     fn reading(&self, c: usize) -> u16
         requires { c < 8192 }
         ensures { result ≡ reading_at (bytes_at self.now.bytes) c }

@@ -14,8 +14,8 @@ use fields::KindField;
 use pages::page::Page;
 use rules::fault::{Buffer, PageFault};
 
-// An image that is begun and owed an end: how many cells it has, how many of its level blocks have been put, and whether it was
-// ended. It holds plain numbers, and `spent` is one of them, since that it was ended is what its Drop demands.
+// An image that is begun and owed an end: how many cells it has, and how many of its level blocks have been put.
+// It holds plain numbers, and whether it was ended is one of them: its Drop demands that.
 pub struct Begun {
     cells: usize,
     put: usize,
@@ -131,6 +131,7 @@ pub fn save(page: &Page<KindField>, cells: &[u16], image: &mut [u8]) -> Result<(
     check_cells(cells, page.numbers().cell_count())?;
     let mut begun = begin(page, image)?;
     for _block in 0..level_blocks(cells.len()) {
+        // no put is refused here, and `?` would let go of an image that is owed an end
         let _ = begun.put(cells, image);
     }
     begun.close(image)
