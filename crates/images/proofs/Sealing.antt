@@ -1,20 +1,15 @@
 -- Blocks that are sealed by their checks.
-use Rattle.std.proofs.Common.{◌≡◌, ℕ, zero, suc, ◌+◌, ◌-◌, ◌*◌, ◌<◌, ◌≤◌, cond, ◌&&◌, eqb, List, [], ◌∷◌, length, get_or, take, drop, set, sym, refl, ap, ◌∙◌, ap₂, inl, inr, arith, length-set, get_or-set_other, get_or-set_same}
-use Rattle.std.proofs.lemmas.List.{ext_get_or, get_or-take, get_or-drop}
+use Rattle.std.proofs.Common.{◌≡◌, ℕ, zero, suc, ◌+◌, ◌-◌, ◌*◌, ◌/◌, ◌<◌, ◌≤◌, Bool, cond, ◌&&◌, eqb, List, [], ◌∷◌, ◌++◌, length, get_or, take, drop, sym, ap, ◌∙◌, ap₂, inl, inr, arith, length-append, length-drop}
+use borrow.Rule.Slice.PartMut.{put_mid}
+use Rattle.std.specs.Simd.{first_chunks}
+use Rattle.std.specs.Cmp.Lexicographic.{pointwise}
+use Rattle.std.proofs.Math.Bool.{and_assoc, and-true}
+use Rattle.std.proofs.lemmas.List.{ext_get_or, get_or-take, get_or-drop, get_or_append_left, get_or-append_right, length-take-le, drop_more, drop_all, drop-drop}
 use Rattle.std.proofs.lemmas.List.FromFn.{length-map-range_with_len}
 use Rattle.std.proofs.lemmas.Bool.{cases_lt, lt-ltb, le-ltb}
-use Rattle.basics.specs.Lists.{Updated}
 use Rattle.rules.specs.Pages.{tabled}
-use Rattle.rules.proofs.Drifts.{tabled_at, tabled_same, total_same}
+use Rattle.rules.proofs.Drifts.{tabled_at, total_same}
 use Rattle.images.specs.Format.{four_bytes, check_value, sealed, sealed_at}
-
--- what holds of 0 to 3 holds below 4
-pub four : (P : ℕ → Type 0) → P 0 → P 1 → P 2 → P 3 → (k : ℕ) → k < 4 → P k
-four P a b c d zero h = a
-four P a b c d (suc zero) h = b
-four P a b c d (suc (suc zero)) h = c
-four P a b c d (suc (suc (suc zero))) h = d
-four P a b c d (suc (suc (suc (suc k)))) h = absurd (omega arith)
 
 -- the check is that of the bytes before it
 pub check_same : (b : ℕ) (f g : ℕ → ℕ) → ((j : ℕ) → j < 508 → f j ≡ g j) → check_value b f ≡ check_value b g
@@ -30,54 +25,34 @@ pub sealed_high : (b : ℕ) (f : ℕ → ℕ) (j : ℕ) → 508 ≤ j → sealed
 unfolding sealed_at
 sealed_high b f j h = ap (λ t. cond t (f j) (get_or (four_bytes (check_value b f)) (j - 508) 0)) (le-ltb j 508 h)
 
-pub sealed_same : (b : ℕ) (f g : ℕ → ℕ) → ((j : ℕ) → j < 508 → f j ≡ g j) → (j : ℕ) → sealed_at b f j ≡ sealed_at b g j
-sealed_same b f g h j = elim (cases_lt j 508) [
-  | inl l ↦ sealed_low b f j l ∙ h j l ∙ sym (sealed_low b g j l)
-  | inr l ↦ sealed_high b f j l ∙ ap (λ x. get_or (four_bytes x) (j - 508) 0) (check_same b f g h) ∙ sym (sealed_high b g j l)
-]
-
 -- a list by its places
 pub tabled_is : (m : ℕ) (f : ℕ → ℕ) (xs : List ℕ) → length xs ≡ m → ((i : ℕ) → i < m → get_or xs i 0 ≡ f i) → xs ≡ tabled m f
 tabled_is m f xs e h = ext_get_or 0 xs (tabled m f) (e ∙ sym (length-map-range_with_len f 0 m)) (λ i l. h i (omega (arith, e)) ∙ sym (tabled_at m f i (omega (arith, e))))
 
--- four entries that are set, and all others
-module _ (xs : List ℕ) (e : length xs ≡ 512) (w x y z : ℕ) where
-  abbrev four_set : List ℕ
-  four_set = set (set (set (set xs 508 w) 509 x) 510 y) 511 z
-
-  set_long : length four_set ≡ 512
-  set_long = simp length-set e
-
-  set_low : (j : ℕ) → j < 508 → get_or four_set j 0 ≡ get_or xs j 0
-  set_low j h =
-      get_or-set_other (set (set (set xs 508 w) 509 x) 510 y) 511 j z 0 (λ k. omega arith) ∙ get_or-set_other (set (set xs 508 w) 509 x) 510 j y 0 (λ k. omega arith)
-      ∙ get_or-set_other (set xs 508 w) 509 j x 0 (λ k. omega arith) ∙ get_or-set_other xs 508 j w 0 (λ k. omega arith)
-
-  set_high : (k : ℕ) → k < 4 → get_or four_set (508 + k) 0 ≡ get_or (w ∷ x ∷ y ∷ z ∷ []) k 0
-  set_high = four (λ k. get_or four_set (508 + k) 0 ≡ get_or (w ∷ x ∷ y ∷ z ∷ []) k 0)
-      (get_or-set_other (set (set (set xs 508 w) 509 x) 510 y) 511 508 z 0 (λ k. omega arith) ∙ get_or-set_other (set (set xs 508 w) 509 x) 510 508 y 0 (λ k. omega arith)
-      ∙ get_or-set_other (set xs 508 w) 509 508 x 0 (λ k. omega arith) ∙ get_or-set_same xs 508 w 0 (omega arith))
-      (get_or-set_other (set (set (set xs 508 w) 509 x) 510 y) 511 509 z 0 (λ k. omega arith) ∙ get_or-set_other (set (set xs 508 w) 509 x) 510 509 y 0 (λ k. omega arith)
-      ∙ get_or-set_same (set xs 508 w) 509 x 0 (simp length-set (omega arith)))
-      (get_or-set_other (set (set (set xs 508 w) 509 x) 510 y) 511 510 z 0 (λ k. omega arith) ∙ get_or-set_same (set (set xs 508 w) 509 x) 510 y 0 (simp length-set (omega arith)))
-      (get_or-set_same (set (set (set xs 508 w) 509 x) 510 y) 511 z 0 (simp length-set (omega arith)))
-
--- a block whose check is set is sealed
-pub sealed_set : (b : ℕ) (xs bytes : List ℕ) → length xs ≡ 512 → bytes ≡ four_bytes (check_value b (λ j. get_or xs j 0))
-    → set (set (set (set xs 508 (get_or bytes 0 0)) 509 (get_or bytes 1 0)) 510 (get_or bytes 2 0)) 511 (get_or bytes 3 0) ≡ tabled 512 (sealed_at b (λ j. get_or xs j 0))
-sealed_set b xs bytes e h =
-    let w = get_or bytes 0 0 in let x = get_or bytes 1 0 in let y = get_or bytes 2 0 in let z = get_or bytes 3 0 in
-    tabled_is 512 (sealed_at b (λ j. get_or xs j 0)) _ (set_long xs e w x y z) (λ j l. elim (cases_lt j 508) [
-      | inl low ↦ set_low xs e w x y z j low ∙ sym (sealed_low b (λ j. get_or xs j 0) j low)
-      | inr high ↦ let k : 508 + (j - 508) ≡ j = omega arith in
-          ap (λ i. get_or (set (set (set (set xs 508 w) 509 x) 510 y) 511 z) i 0) (sym k) ∙ set_high xs e w x y z (j - 508) (omega arith)
-          ∙ four (λ k. get_or (w ∷ x ∷ y ∷ z ∷ []) k 0 ≡ get_or bytes k 0) refl refl refl refl (j - 508) (omega arith)
-          ∙ ap (λ bs. get_or bs (j - 508) 0) h ∙ sym (sealed_high b (λ j. get_or xs j 0) j high)
+-- a block that holds f, and then its check
+pub sealed_put : (b : ℕ) (f : ℕ → ℕ) (xs cs : List ℕ) → length xs ≡ 512 → ((j : ℕ) → j < 508 → get_or xs j 0 ≡ f j) → cs ≡ four_bytes (check_value b (λ j. get_or xs j 0))
+    → put_mid 508 4 xs cs ≡ tabled 512 (sealed_at b f)
+sealed_put b f xs cs e h is =
+    let long : length cs ≡ 4 = ap length is in let before = length-take-le 508 xs (omega (arith, e)) in
+    tabled_is 512 (sealed_at b f) (put_mid 508 4 xs cs) (omega (arith, e, long, before, length-append (take 508 xs) (cs ++ drop 4 (drop 508 xs)), length-append cs (drop 4 (drop 508 xs)), length-drop 4 (drop 508 xs), length-drop 508 xs)) (λ j l. elim (cases_lt j 508) [
+      | inl low ↦ get_or_append_left (take 508 xs) _ 0 j (omega (arith, before)) ∙ get_or-take 508 xs j 0 low ∙ h j low ∙ sym (sealed_low b f j low)
+      | inr high ↦ get_or-append_right (take 508 xs) _ 508 j 0 before high ∙ get_or_append_left cs _ 0 (j - 508) (omega (arith, long))
+          ∙ ap (λ bs. get_or bs (j - 508) 0) (is ∙ ap four_bytes (check_same b (λ j. get_or xs j 0) f h)) ∙ sym (sealed_high b f j high)
     ])
 
--- a block that was laid, and then sealed
-pub laid_sealed : (b : ℕ) (f : ℕ → ℕ) (xs ys zs : List ℕ) → length xs ≡ 512 → Updated 508 f xs ys → zs ≡ tabled 512 (sealed_at b (λ j. get_or ys j 0)) → zs ≡ tabled 512 (sealed_at b f)
-laid_sealed b f xs ys zs e u h = h ∙ tabled_same 512 _ _ (λ j _. sealed_same b (λ j. get_or ys j 0) f (λ j l. u.new j l (omega (arith, e))) j)
+-- a block ends with four bytes
+last_four : (xs : List ℕ) → length xs ≡ 512 → drop 508 xs ≡ (get_or xs 508 0 ∷ get_or xs 509 0 ∷ get_or xs 510 0 ∷ get_or xs 511 0 ∷ [])
+last_four xs e =
+    drop_more xs 508 0 (omega arith) ∙ ap (λ ys. get_or xs 508 0 ∷ ys) (drop_more xs 509 0 (omega arith)
+    ∙ ap (λ ys. get_or xs 509 0 ∷ ys) (drop_more xs 510 0 (omega arith)
+    ∙ ap (λ ys. get_or xs 510 0 ∷ ys) (drop_more xs 511 0 (omega arith) ∙ ap (λ ys. get_or xs 511 0 ∷ ys) (drop_all 512 xs (omega arith)))))
+
+-- which are compared with its check
+pub ends_sealed : (b : ℕ) (xs : List ℕ) → length xs ≡ 512 → pointwise eqb (take 4 (drop 508 xs)) (four_bytes (check_value b (λ j. get_or xs j 0))) ≡ sealed b (λ j. get_or xs j 0)
+unfolding sealed
+ends_sealed b xs e =
+    let v = check_value b (λ j. get_or xs j 0) in let t = λ (k : ℕ). eqb (get_or xs (508 + k) 0) (get_or (four_bytes v) k 0) in
+    ap (λ ys. pointwise eqb (take 4 ys) (four_bytes v)) (last_four xs e) ∙ ap (λ u. t 0 && (t 1 && (t 2 && u))) (and-true (t 3)) ∙ sym (and_assoc (t 0) (t 1) (t 2 && t 3))
 
 -- whether a block is sealed, from its bytes
 pub seal_same : (b : ℕ) (f g : ℕ → ℕ) → ((j : ℕ) → j < 512 → f j ≡ g j) → sealed b f ≡ sealed b g
@@ -87,6 +62,18 @@ seal_same b f g h =
     let at = λ (j k : ℕ) (l : j < 512). ap₂ (λ (x y : ℕ). eqb x (get_or (four_bytes y) k 0)) (h j l) e in
     ap₂ ◌&&◌ (ap₂ ◌&&◌ (at 508 0 (omega arith)) (at 509 1 (omega arith))) (ap₂ ◌&&◌ (at 510 2 (omega arith)) (at 511 3 (omega arith)))
 
--- and where it is a part of an image
-pub seal_part : (b k : ℕ) (xs : List ℕ) → k ≡ 512 → sealed b (λ j. get_or (take k (drop (512 * b) xs)) j 0) ≡ sealed b (λ j. get_or xs (512 * b + j) 0)
-seal_part b k xs e = seal_same b _ _ (λ j h. get_or-take k (drop (512 * b) xs) j 0 (omega arith) ∙ get_or-drop (512 * b) xs j 0)
+-- the blocks of an image
+chunk_at : (n k : ℕ) (xs : List ℕ) (b : ℕ) (d : List ℕ) → b < k → get_or (first_chunks n k xs) b d ≡ take n (drop (n * b) xs)
+chunk_at n zero xs b d h = absurd (omega arith)
+chunk_at n (suc k) xs zero d h = let e : 0 ≡ n * 0 = omega arith in ap (λ m. take n (drop m xs)) e
+chunk_at n (suc k) xs (suc b) d h = let e : n + n * b ≡ n * suc b = grind arith in
+    chunk_at n k (drop n xs) b d (omega arith) ∙ ap (take n) (drop-drop (n * b) n xs) ∙ ap (λ m. take n (drop m xs)) e
+
+-- whether one of them is sealed
+pub seal_part : (b size : ℕ) (xs : List ℕ) (bs : List (List ℕ)) (d : List ℕ) (r : Bool) → size ≤ length xs → bs ≡ first_chunks 512 (length (take size xs) / 512) (take size xs) → b < size / 512
+    → r ≡ sealed b (λ j. get_or (get_or bs b d) j 0) → r ≡ sealed b (λ j. get_or xs (512 * b + j) 0)
+seal_part b size xs bs d r h e l is =
+    let long = length-take-le size xs h in let k = length (take size xs) / 512 in
+    is ∙ seal_same b _ _ (λ j m.
+    ap (λ yss. get_or (get_or yss b d) j 0) e ∙ ap (λ ys. get_or ys j 0) (chunk_at 512 k (take size xs) b d (omega (arith, long)))
+    ∙ get_or-take 512 (drop (512 * b) (take size xs)) j 0 m ∙ get_or-drop (512 * b) (take size xs) j 0 ∙ get_or-take size xs (512 * b + j) 0 (omega arith))

@@ -1,5 +1,5 @@
 // Opening: a raw image is looked at, and only an opened one gives its page and its rows.
-ghost use Rattle.std.specs.Prelude.{◌≡◌, ℕ, ◌+◌, ◌*◌, ◌/◌, ◌%◌, ◌<◌, ◌≤◌, not, ◌||◌, length, IfOk, OnOk, ◌==◌, slice_index};
+ghost use Rattle.std.specs.Prelude.{◌≡◌, ℕ, ◌+◌, ◌*◌, ◌/◌, ◌%◌, ◌<◌, ◌≤◌, not, ◌||◌, length, take, IfOk, OnOk, ◌==◌, slice_index};
 ghost use Rattle.basics.specs.Checks.{check, ◌or_else◌, lowest, told, verdict, fault_of};
 ghost use Rattle.fields.specs.Numbered.{number_of};
 ghost use Rattle.plans.specs.Orders.{outside};
@@ -14,22 +14,27 @@ ghost use Rattle.images.specs.declared.fault.ImageFault.TheVariants.{Length, Hea
 
 use crate::block::{FIRST_BYTES, is_sealed};
 use crate::fault::ImageFault;
+use crate::size::{check_cells, level_blocks};
 use fields::KindField;
 use pages::page::{Page, order_kind};
 use plans::numbers::Numbers;
-use rules::fault::{Buffer, PageFault};
+use rules::fault::PageFault;
+use std::array;
 
-// An image as it came, with no more than 34 blocks of it kept, and how many bytes it has.
+// The bytes of an image, which has no more than 34 blocks. They are kept by value, in fixed memory, since there is no heap.
+type Bytes = [u8; 17408];
+
+// An image as it came: as much of it as is kept, and how many bytes it has, which may be more.
 #[derive(Drop)]
 pub struct Raw {
-    bytes: [u8; 17408],
+    bytes: Bytes,
     size: usize,
 }
 
 // An image that was looked at and is one, with the page that it shows.
 #[derive(Drop)]
 pub struct Opened {
-    bytes: [u8; 17408],
+    bytes: Bytes,
     page: Page<KindField>,
 }
 
@@ -63,62 +68,36 @@ impl Raw {
         ensures fault { result ≡ verdict (check (not (self.now.size % 512 == 0) || outside 1024 17408 self.now.size) Length) }
         ensures few { OnOk result (self.now.size ≤ 17408) }
     {
-        if self.size % 512 != 0 || self.size < 1024 || self.size > 17408 {
+        if self.size % 512 != 0 || !(1024..=17408).contains(&self.size) {
             return Err(ImageFault::Length);
         }
         Ok(())
     }
 
-    // A block whose check is wrong.
-    fn check_seal(&self, b: usize) -> Result<(), ImageFault>
-        requires { b < 34 }
-        ensures { result ≡ verdict (seal_fault (bytes_at self.now.bytes) b) }
-    {
-        if !is_sealed(b, &self.bytes[512 * b..512 * b + 512]) {
-            return Err(ImageFault::Check(b as u16));
-        }
-        Ok(())
-    }
-
-    // The lowest such block.
+    // The lowest block whose check is wrong.
     fn check_seals(&self) -> Result<(), ImageFault>
         requires { self.now.size ≤ 17408 }
         ensures { result ≡ verdict (lowest 0 (self.now.size / 512) (seal_fault (bytes_at self.now.bytes))) }
     {
-        for b in 0..self.size / 512 {
-            self.check_seal(b)?;
+        let (blocks, _) = self.bytes[..self.size].as_chunks::<512>();
+        for (b, block) in blocks.iter().enumerate() {
+            if !is_sealed(b as u16, block) {
+                return Err(ImageFault::Check(b as u16));
+            }
         }
         Ok(())
     }
 
-    // A byte of the first word or the edition that is wrong.
-    fn check_byte(&self, i: usize) -> Result<(), ImageFault>
-        requires { i < 5 }
-        ensures { result ≡ verdict (word_fault (bytes_at self.now.bytes) i) }
-    {
-        let first = FIRST_BYTES;
-        if self.bytes[i] != first[i] {
-            return Err(ImageFault::Word(i as u16));
-        }
-        Ok(())
-    }
-
-    // The lowest such byte.
+    // The lowest byte of the first word or the edition that is wrong.
     fn check_word(&self) -> Result<(), ImageFault>
         ensures { result ≡ verdict (lowest 0 5 (word_fault (bytes_at self.now.bytes))) }
     {
-        for i in 0..5usize {
-            self.check_byte(i)?;
+        for (i, byte) in FIRST_BYTES.iter().enumerate() {
+            if self.bytes[i] != *byte {
+                return Err(ImageFault::Word(i as u16));
+            }
         }
         Ok(())
-    }
-
-    // The number of two bytes from place i on.
-    fn word(&self, i: usize) -> u16
-        requires { i + 1 < 17408 }
-        ensures { result ≡ word_at (bytes_at self.now.bytes) i }
-    {
-        self.bytes[i] as u16 + 256 * self.bytes[i + 1] as u16
     }
 
     // The numbers that the header names.
@@ -126,23 +105,19 @@ impl Raw {
         ensures { result ≡ numbers_in (bytes_at self.now.bytes) }
     {
         Numbers {
-            columns: self.word(6),
+            columns: word(&self.bytes, 6),
             checks: self.bytes[8] as u16,
             rows: self.bytes[9] as u16,
-            heights: self.word(10),
-            drift: self.word(12),
+            heights: word(&self.bytes, 10),
+            drift: word(&self.bytes, 12),
         }
     }
 
-    // The columns that the header names as marked, with more after them.
+    // The columns that the header names as marked, and more after them.
     fn columns(&self) -> [u16; 256]
-        ensures { result ≡ tabled 256 (λ i. word_at (bytes_at self.now.bytes) (16 + 2 * i)) }
+        ensures { (count : ℕ) → count ≤ 256 → take count result ≡ tabled count (λ i. word_at (bytes_at self.now.bytes) (16 + 2 * i)) }
     {
-        let mut columns = [0; 256];
-        for i in 0..256usize {
-            columns[i] = self.word(16 + 2 * i);
-        }
-        columns
+        array::from_fn(|i| word(&self.bytes, 16 + 2 * i))
     }
 
     // Another number of blocks than the page has.
@@ -150,7 +125,7 @@ impl Raw {
         requires { cells ≤ 8192 }
         ensures { result ≡ verdict (check (not (self.now.size == 512 * (1 + blocks_of_levels cells))) (Blocks (1 + blocks_of_levels cells))) }
     {
-        let wanted = 1 + (cells + 253) / 254;
+        let wanted = 1 + level_blocks(cells);
         if self.size != 512 * wanted {
             return Err(ImageFault::Blocks(wanted as u16));
         }
@@ -159,40 +134,26 @@ impl Raw {
 
     // Whether place i is filler, on a page of this many cells.
     fn is_filler(&self, cells: usize, i: usize) -> bool
-        requires cells { cells ≡ cell_count (numbers_in (bytes_at self.now.bytes)) }
-        requires few { cells ≤ 8192 }
-        requires inside { i < 17408 }
+        requires { cells ≡ cell_count (numbers_in (bytes_at self.now.bytes)) }
         ensures { result ≡ filler_here (bytes_at self.now.bytes) i }
     {
         if i < 512 {
             i == 15 || (16 + 2 * self.bytes[14] as usize <= i && i < 508)
         } else {
-            i % 512 < 508 && 2 * cells <= 508 * (i / 512 - 1) + i % 512
+            i % 512 < 508 && cells <= (508 * (i / 512 - 1) + i % 512) / 2
         }
     }
 
-    // Filler that is not 0.
-    fn check_place(&self, cells: usize, i: usize) -> Result<(), ImageFault>
-        requires cells { cells ≡ cell_count (numbers_in (bytes_at self.now.bytes)) }
-        requires few { cells ≤ 8192 }
-        requires inside { i < 17408 }
-        ensures { result ≡ verdict (filler_fault (bytes_at self.now.bytes) i) }
-    {
-        if self.is_filler(cells, i) && self.bytes[i] != 0 {
-            return Err(ImageFault::Filler((i / 512) as u16, (i % 512) as u16));
-        }
-        Ok(())
-    }
-
-    // The lowest such place.
+    // The lowest place of filler that is not 0.
     fn check_filler(&self, cells: usize) -> Result<(), ImageFault>
         requires cells { cells ≡ cell_count (numbers_in (bytes_at self.now.bytes)) }
-        requires few { cells ≤ 8192 }
         requires size { self.now.size ≤ 17408 }
         ensures { result ≡ verdict (lowest 0 self.now.size (filler_fault (bytes_at self.now.bytes))) }
     {
-        for i in 0..self.size {
-            self.check_place(cells, i)?;
+        for (i, byte) in self.bytes[..self.size].iter().enumerate() {
+            if *byte != 0 && self.is_filler(cells, i) {
+                return Err(ImageFault::Filler((i / 512) as u16, (i % 512) as u16));
+            }
         }
         Ok(())
     }
@@ -204,8 +165,7 @@ impl Raw {
     {
         let page = order_kind(self.bytes[5] as u16, self.numbers())?;
         let columns = self.columns();
-        let marked = page.with_marking(&columns[0..self.bytes[14] as usize])?;
-        Ok(marked)
+        Ok(page.with_marking(&columns[..self.bytes[14] as usize])?)
     }
 
     // Why the bytes are no image, or the page that they show.
@@ -225,13 +185,21 @@ impl Raw {
 }
 
 // As many of the bytes as an image can have, and zeros after them.
-fn kept(bytes: &[u8]) -> [u8; 17408]
+fn kept(bytes: &[u8]) -> Bytes
     ensures { length bytes.now ≤ 17408 → (i : ℕ) → slice_index result i ≡ slice_index bytes.now i }
 {
     let mut copy = [0; 17408];
     let count = bytes.len().min(17408);
-    copy[0..count].copy_from_slice(&bytes[0..count]);
+    copy[..count].copy_from_slice(&bytes[..count]);
     copy
+}
+
+// The number of two bytes from place i on.
+fn word(bytes: &[u8], i: usize) -> u16
+    requires { i + 1 < length bytes.now }
+    ensures { result ≡ word_at (bytes_at bytes.now) i }
+{
+    u16::from_le_bytes([bytes[i], bytes[i + 1]])
 }
 
 impl Opened {
@@ -249,23 +217,12 @@ impl Opened {
         self.page
     }
 
-    // Where byte i of the readings stands.
-    fn place(i: usize) -> usize
-        requires { i < 16384 }
-        ensures place { result ≡ stream_place i }
-        ensures inside { result < 17408 }
-    {
-        512 * (1 + i / 508) + i % 508
-    }
-
-    // Reading c.
+    // Reading c: a level block holds 254 of them.
     fn reading(&self, c: usize) -> u16
         requires { c < 8192 }
         ensures { result ≡ reading_at (bytes_at self.now.bytes) c }
     {
-        let low = self.bytes[Opened::place(2 * c)] as u16;
-        let high = self.bytes[Opened::place(2 * c + 1)] as u16;
-        low + 256 * high
+        word(&self.bytes, 512 * (1 + c / 254) + 2 * (c % 254))
     }
 
     // Readings from reading `first` on.
@@ -273,8 +230,8 @@ impl Opened {
         requires { first + length cells.old ≤ 8192 }
         ensures { cells.new ≡ tabled (length cells.old) (λ i. reading_at (bytes_at self.now.bytes) (first + i)) }
     {
-        for i in 0..cells.len() {
-            cells[i] = self.reading(first + i);
+        for (i, cell) in cells.iter_mut().enumerate() {
+            *cell = self.reading(first + i);
         }
     }
 
@@ -285,9 +242,7 @@ impl Opened {
     {
         self.page.check()?;
         let numbers = self.page.numbers();
-        if cells.len() != numbers.columns as usize {
-            return Err(PageFault::Length(Buffer::Cells));
-        }
+        check_cells(cells, numbers.columns as usize)?;
         if row >= numbers.rows {
             return Err(PageFault::Place(row, 0));
         }
@@ -301,10 +256,7 @@ impl Opened {
         ensures cells { OrKept result cells.old cells.new (cells.new ≡ tabled (cell_count self.now.page.plan.numbers) (reading_at (bytes_at self.now.bytes))) }
     {
         self.page.check()?;
-        let numbers = self.page.numbers();
-        if cells.len() != numbers.cell_count() {
-            return Err(PageFault::Length(Buffer::Cells));
-        }
+        check_cells(cells, self.page.numbers().cell_count())?;
         self.fill(0, cells);
         Ok(())
     }

@@ -2,18 +2,20 @@
 ghost use Rattle.std.specs.Prelude.{◌≡◌, ℕ, ◌+◌, ◌*◌, ◌<◌, ◌≤◌, true, false, length, IfOk, OnOk};
 ghost use Rattle.basics.specs.Checks.{verdict, fault_of};
 ghost use Rattle.fields.specs.Numbered.{number_of};
+ghost use Rattle.rules.specs.Pages.{tabled};
 ghost use Rattle.rules.specs.Views.{marking, of_kind};
 ghost use Rattle.images.specs.Format.{head_at, sealed_at, blocks_of_levels, cell_count, image_of};
 ghost use Rattle.images.specs.Saving.{BlockSet, OrKept, count_after, LevelsSet, begin_fault, image_fault, put_fault, close_fault, closed, abandoned, save_fault, stored};
 
-use crate::block::{set_head, set_levels};
+use crate::block::{Block, head_block, level_block};
 use crate::fault::SaveFault;
+use crate::size::{check_cells, level_blocks};
 use fields::KindField;
 use pages::page::Page;
-use plans::numbers::Numbers;
 use rules::fault::{Buffer, PageFault};
 
 // An image that is begun and owed an end: how many cells it has, and how many of its level blocks have been put.
+// It holds plain numbers, and whether it was ended is one of them: its Drop demands that.
 pub struct Begun {
     cells: usize,
     put: usize,
@@ -34,25 +36,24 @@ impl Drop for Begun {
     }
 }
 
-// Sets block 0 of an image.
-fn put_head(kind: u8, numbers: Numbers, marked: &[u16], image: &mut [u8])
-    requires long { 512 ≤ length image.old }
-    requires checks { numbers.checks < 256 }
-    requires rows { numbers.rows < 256 }
-    requires count { length marked.now < 256 }
-    ensures { BlockSet 0 (sealed_at 0 (head_at kind numbers marked.now)) image.old image.new }
+// Sets block b of an image.
+fn put_block(b: usize, block: &Block, image: &mut [u8])
+    requires { 512 * b + 512 ≤ length image.old }
+    ensures { (f : ℕ → ℕ) → block.now ≡ tabled 512 f → BlockSet b f image.old image.new }
 {
-    set_head(kind, numbers, marked, &mut image[0..512]);
+    image[512 * b..512 * b + 512].copy_from_slice(block);
 }
 
-// Sets level block b of an image.
-fn put_levels(b: usize, cells: &[u16], image: &mut [u8])
-    requires few { b < 33 }
-    requires long { 512 * (b + 1) + 512 ≤ length image.old }
-    ensures { LevelsSet b cells.now image.old image.new }
+// A buffer of another length than the image of this many cells.
+fn check_image(cells: usize, image: &[u8]) -> Result<(), SaveFault>
+    requires { cells ≤ 8192 }
+    ensures fault { result ≡ verdict (image_fault cells (length image.now)) }
+    ensures size { OnOk result (length image.now ≡ 512 * (1 + blocks_of_levels cells)) }
 {
-    let start = 512 * (b + 1);
-    set_levels(b, cells, &mut image[start..start + 512]);
+    if image.len() != 512 * (1 + level_blocks(cells)) {
+        return Err(SaveFault::Page(PageFault::Length(Buffer::Image)));
+    }
+    Ok(())
 }
 
 // Begins the image of a page: sets block 0 of the buffer, and no other byte.
@@ -64,31 +65,14 @@ pub fn begin(page: &Page<KindField>, image: &mut [u8]) -> Result<Begun, SaveFaul
     page.check()?;
     let numbers = page.numbers();
     let cells = numbers.cell_count();
-    if image.len() != image_size(cells) {
-        return Err(SaveFault::Page(PageFault::Length(Buffer::Image)));
-    }
-    put_head(page.field().kind(), numbers, page.marked(), image);
+    check_image(cells, image)?;
+    let head = head_block(page.field().kind(), numbers, page.marked());
+    put_block(0, &head, image);
     Ok(Begun {
         cells,
         put: 0,
         spent: false,
     })
-}
-
-// How many level blocks hold the readings of this many cells.
-fn level_blocks(cells: usize) -> usize
-    requires { cells ≤ 8192 }
-    ensures { result ≡ blocks_of_levels cells }
-{
-    (cells + 253) / 254
-}
-
-// How many bytes the image of this many cells has.
-fn image_size(cells: usize) -> usize
-    requires { cells ≤ 8192 }
-    ensures { result ≡ 512 * (1 + blocks_of_levels cells) }
-{
-    512 * (1 + level_blocks(cells))
 }
 
 impl Begun {
@@ -100,26 +84,13 @@ impl Begun {
         ensures cells { self.new.cells ≡ self.old.cells }
         ensures owed { self.new.spent ≡ self.old.spent }
     {
-        if cells.len() != self.cells {
-            return Err(SaveFault::Page(PageFault::Length(Buffer::Cells)));
-        }
-        self.check_image(image)?;
+        check_cells(cells, self.cells)?;
+        check_image(self.cells, image)?;
         if self.put >= level_blocks(self.cells) {
             return Err(SaveFault::Full);
         }
-        put_levels(self.put, cells, image);
+        put_block(self.put + 1, &level_block(self.put, cells), image);
         self.put += 1;
-        Ok(())
-    }
-
-    // A buffer of another length than the image has.
-    fn check_image(&self, image: &[u8]) -> Result<(), SaveFault>
-        ensures fault { result ≡ verdict (image_fault self.now.cells (length image.now)) }
-        ensures size { OnOk result (length image.now ≡ 512 * (1 + blocks_of_levels self.now.cells)) }
-    {
-        if image.len() != image_size(self.cells) {
-            return Err(SaveFault::Page(PageFault::Length(Buffer::Image)));
-        }
         Ok(())
     }
 
@@ -130,7 +101,7 @@ impl Begun {
     {
         let mut ended = self;
         ended.spent = true;
-        ended.check_image(image)?;
+        check_image(ended.cells, image)?;
         if ended.put < level_blocks(ended.cells) {
             image.fill(0);
             return Err(SaveFault::Early);
@@ -145,7 +116,7 @@ impl Begun {
     {
         let mut ended = self;
         ended.spent = true;
-        ended.check_image(image)?;
+        check_image(ended.cells, image)?;
         image.fill(0);
         Ok(())
     }
@@ -157,12 +128,10 @@ pub fn save(page: &Page<KindField>, cells: &[u16], image: &mut [u8]) -> Result<(
     ensures image { OrKept result image.old image.new (image.new ≡ image_of (stored (number_of page.now.field) page.now.plan cells.now)) }
 {
     page.check()?;
-    let numbers = page.numbers();
-    if cells.len() != numbers.cell_count() {
-        return Err(SaveFault::Page(PageFault::Length(Buffer::Cells)));
-    }
+    check_cells(cells, page.numbers().cell_count())?;
     let mut begun = begin(page, image)?;
     for _block in 0..level_blocks(cells.len()) {
+        // no put is refused here, and `?` would let go of an image that is owed an end
         let _ = begun.put(cells, image);
     }
     begun.close(image)

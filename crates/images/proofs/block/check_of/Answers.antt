@@ -1,5 +1,6 @@
-use Rattle.std.proofs.Common.{◌≡◌, ℕ, ◌+◌, ◌*◌, ◌≤◌, get_or, ap, ◌∙◌, arith}
+use Rattle.std.proofs.Common.{◌≡◌, ℕ, ◌+◌, ◌*◌, ◌≤◌, get_or, take, ap, ◌∙◌, arith}
 use Rattle.std.proofs.lemmas.Nat.{mul-le}
+use Rattle.std.proofs.lemmas.List.{get_or-take}
 use Rattle.rules.specs.Reach.{total}
 use Rattle.rules.proofs.Drifts.{total_more, total_empty}
 use Rattle.images.specs.Format.{check_value}
@@ -13,13 +14,14 @@ pub loop-j-init : goal.loop-j-init
 loop-j-init c = (omega (arith, total_empty (λ j. (j + 1) * get_or c.args.block.now j 0)), omega arith)
 
 pub overflow_add-sum-in-loop-j-2 : goal.overflow_add-sum-in-loop-j-2
-overflow_add-sum-in-loop-j-2 c = omega (arith, small c.loop-j.j (get_or c.args.block.now c.loop-j.j 0) (omega arith) (omega arith))
+overflow_add-sum-in-loop-j-2 c = omega (arith, small c.loop-j.j (get_or (take 508 c.args.block.now) c.loop-j.j 0) (omega arith) (omega arith))
 
 pub loop-j-preserved : goal.loop-j-preserved
-loop-j-preserved c = (
-  omega (arith, total_more c.loop-j.j (λ j. (j + 1) * get_or c.args.block.now j 0)),
-  omega (arith, small c.loop-j.j (get_or c.args.block.now c.loop-j.j 0) (omega arith) (omega arith)),
-)
+loop-j-preserved c =
+    let j = c.loop-j.j in let e = ap (λ x. (j + 1) * x) (get_or-take 508 c.args.block.now j 0 (omega arith)) in (
+      omega (arith, e, total_more j (λ j. (j + 1) * get_or c.args.block.now j 0)),
+      omega (arith, small j (get_or (take 508 c.args.block.now) j 0) (omega arith) (omega arith)),
+    )
 
 pub returns : goal.returns
 unfolding check_value

@@ -1,11 +1,10 @@
-use Rattle.std.proofs.Common.{rules}
-use Rattle.images.specs.Format.{sealed}
+use Rattle.std.proofs.Common.{eqb, take, drop, ap, ◌∙◌}
+use Rattle.std.specs.Cmp.Lexicographic.{pointwise}
+use Rattle.images.specs.Format.{four_bytes}
+use Rattle.images.proofs.Sealing.{ends_sealed}
 use Rattle.images.proofs.block.is_sealed.Goals as goal
 
-pub returns-then-block-bytes-3 : goal.returns-then-block-bytes-3
-unfolding sealed
-returns-then-block-bytes-3 c = search rules
-
-pub returns-else-block-bytes-3 : goal.returns-else-block-bytes-3
-unfolding sealed
-returns-else-block-bytes-3 c = search rules
+pub returns : goal.returns
+returns c =
+    c.eq.ensures ∙ ap (pointwise eqb (take 4 (drop 508 c.args.block.now))) (c.to_le_bytes.ensures ∙ ap four_bytes c.check_of.ensures)
+    ∙ ends_sealed c.args.b c.args.block.now c.told-block

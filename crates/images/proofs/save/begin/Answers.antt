@@ -1,31 +1,22 @@
-use Rattle.std.proofs.Common.{◌≡◌, ℕ, ◌*◌, ◌<◌, ◌≤◌, length, sym, ap, subst, arith}
-use Rattle.std.proofs.lemmas.Nat.{mul-le}
-use Rattle.std.proofs.lemmas.List.{length-take}
-use Rattle.plans.specs.declared.numbers.Numbers.{Numbers}
-use Rattle.plans.specs.declared.plan.Plan.{Plan}
-use Rattle.plans.specs.Orders.{Ranges}
-use Rattle.rules.specs.Views.{marking}
+use Rattle.std.proofs.Common.{ℕ, ◌+◌, ◌*◌, List, length, sym, ap, ◌∙◌, ap₂}
+use Rattle.basics.specs.Checks.{told}
+use Rattle.basics.proofs.Checking.{first_passes, none_from_verdict}
+use Rattle.fields.specs.Numbered.{number_of}
+use Rattle.rules.specs.Pages.{tabled}
+use Rattle.rules.specs.Calls.{numbers_fault}
+use Rattle.rules.specs.Views.{of_kind}
+use Rattle.images.specs.Format.{head_at, sealed_at, blocks_of_levels, cell_count}
+use Rattle.images.specs.declared.fault.SaveFault.TheVariants.{Page}
+use Rattle.images.proofs.Saving.{image_fine}
 use Rattle.images.proofs.save.begin.Goals as goal
 
--- an ordered page has few cells, and its numbers are bytes
-few_cells : {q : ℕ} (m p : Numbers) → m ≡ p → Ranges q p → m.rows * m.columns ≤ 8192
-few_cells m p e g = subst (λ (n : Numbers). n.rows * n.columns ≤ 8192) (sym e) (mul-le p.rows p.columns 32 256 g.rows_few g.columns_few)
+pub returns-clause-fault : goal.returns-clause-fault
+returns-clause-fault c =
+    let page = c.args.page.now in let p = of_kind (number_of page.field) page.plan.numbers in
+    let count = c.cell_count-cells.ensures ∙ ap cell_count c.numbers-numbers.ensures in
+    sym (first_passes (told Page (numbers_fault p)) _ (ap (told Page) (none_from_verdict (numbers_fault p) c.in_ok-check.ensures.fault))
+    ∙ image_fine (cell_count p.numbers) (length c.args.image.now) (c.in_ok-check_image.ensures.size ∙ ap (λ n. 512 * (1 + blocks_of_levels n)) count))
 
-few_marks : (p : Plan) → length (marking p) < 256
-few_marks p = omega (arith, p.room, length-take p.count p.marked)
-
-pub image_size-requires : goal.image_size-requires
-image_size-requires c = omega (arith, c.cell_count-cells.ensures, few_cells _ _ c.numbers-numbers.ensures c.in_ok-check.ensures.ranges)
-
-pub put_head-requires : goal.put_head-requires
-put_head-requires c =
-    let g = c.in_ok-check.ensures.ranges in let e = c.numbers-numbers.ensures in
-    record {
-      long = omega arith;
-      checks = subst (λ (n : Numbers). n.checks < 256) (sym e) (omega (arith, g.checks_few));
-      rows = subst (λ (n : Numbers). n.rows < 256) (sym e) (omega (arith, g.rows_few));
-      count = omega (arith, ap length c.marked.ensures, few_marks c.args.page.now.plan);
-    }
-
-pub invariant_of-result : goal.invariant_of-result
-invariant_of-result c = record { few = omega (arith, c.cell_count-cells.ensures, few_cells _ _ c.numbers-numbers.ensures c.in_ok-check.ensures.ranges) }
+pub returns-clause-image : goal.returns-clause-image
+returns-clause-image c = c.put_block.ensures _ (c.head_block-head.ensures
+    ∙ ap₂ (λ (head : List ℕ → ℕ → ℕ) ms. tabled 512 (sealed_at 0 (head ms))) (ap₂ head_at (c.kind.ensures ∙ ap number_of c.field.ensures) c.numbers-numbers.ensures) c.marked.ensures)

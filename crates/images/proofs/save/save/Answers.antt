@@ -1,7 +1,6 @@
 use Rattle.std.proofs.Common.{◌≡◌, ℕ, ◌+◌, ◌*◌, length, Ok, sym, ap, ◌∙◌, subst, arith}
 use Rattle.basics.specs.Checks.{verdict}
 use Rattle.fields.specs.Numbered.{number_of}
-use Rattle.plans.specs.declared.numbers.Numbers.{Numbers}
 use Rattle.rules.specs.Views.{of_kind}
 use Rattle.images.specs.Format.{blocks_of_levels, cell_count, image_of}
 use Rattle.images.specs.Saving.{LevelsSet, count_after, closed, stored}
@@ -13,7 +12,7 @@ pub loop-block-init : goal.loop-block-init
 loop-block-init c =
     let page = c.args.page.now in let b = c.in_ok-begun.ensures in
     let p = of_kind (number_of page.field) page.plan.numbers in
-    let count : length c.args.cells.now ≡ cell_count page.plan.numbers = subst (λ (n : Numbers). length c.args.cells.now ≡ n.rows * n.columns) c.numbers-numbers.ensures (omega arith) in (
+    let count : length c.args.cells.now ≡ cell_count page.plan.numbers = c.in_ok-check_cells.ensures.size ∙ c.cell_count.ensures ∙ ap cell_count c.numbers.ensures in (
       b.begun.1,
       b.begun.0 ∙ sym count,
       b.begun.2,
@@ -39,7 +38,7 @@ pub returns : goal.returns
 returns c =
     let l = c.loop-block in let page = c.args.page.now in let s = stored (number_of page.field) page.plan c.args.cells.now in
     let p = of_kind (number_of page.field) page.plan.numbers in let b = c.in_ok-begun.ensures in
-    let count : length c.args.cells.now ≡ cell_count page.plan.numbers = subst (λ (n : Numbers). length c.args.cells.now ≡ n.rows * n.columns) c.numbers-numbers.ensures (omega arith) in
+    let count : length c.args.cells.now ≡ cell_count page.plan.numbers = c.in_ok-check_cells.ensures.size ∙ c.cell_count.ensures ∙ ap cell_count c.numbers.ensures in
     let size : length l.image ≡ 512 * (1 + blocks_of_levels l.begun.cells) = l.invariant.3 ∙ ap (λ n. 512 * (1 + blocks_of_levels n)) (sym l.invariant.1) in
     let all : l._block ≡ blocks_of_levels (length c.args.cells.now) = omega (arith, c.loop-block-test.false, l.auto._block-end, c.level_blocks-block-end.ensures) in
     let fine = close_fine l.begun.cells l.begun.put (length l.image) size (omega (arith, l.invariant.0, ap blocks_of_levels l.invariant.1, all)) in

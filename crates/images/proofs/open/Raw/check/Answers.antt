@@ -28,13 +28,3 @@ check_blocks-requires c =
     let at = bytes_at c.args.self.now.bytes in let p = c.in_ok-page.ensures in
     let count = c.cell_count-cells.ensures ∙ ap cell_count (c.numbers.ensures ∙ p.page.numbers) in
     subst (λ (k : ℕ). k ≤ 8192) (sym count) (few_cells (at 5) (numbers_in at) (told_none Header _ (both_none _ _ (sym p.fault)).0))
-
-pub check_filler-requires : goal.check_filler-requires
-check_filler-requires c =
-    let at = bytes_at c.args.self.now.bytes in let p = c.in_ok-page.ensures in
-    let count = c.cell_count-cells.ensures ∙ ap cell_count (c.numbers.ensures ∙ p.page.numbers) in
-    record {
-      cells = count;
-      few = subst (λ (k : ℕ). k ≤ 8192) (sym count) (few_cells (at 5) (numbers_in at) (told_none Header _ (both_none _ _ (sym p.fault)).0));
-      size = c.in_ok-check_size.ensures.few;
-    }
