@@ -56,6 +56,7 @@ fn check(order: u16, width: usize, columns: &[u16], size: usize) -> Result<(), F
 }
 
 // The points of the given columns.
+// That columns and points are no more than lanes is said by each function: a struct for it would wrap one slice, and be opened by each.
 fn points_of<F: Field>(field: &F, columns: &[u16]) -> Lanes
     requires { length columns.now ≤ 64 }
     ensures { Updated (length columns.now) (λ k. F.Field.points field.now (slice_index columns.now k)) (replicate 64 0) result }

@@ -7,7 +7,7 @@ ghost use Rattle.codes.specs.Fill.{Tabled, power_of, Placed, Copied};
 
 use fields::{Field, LANES, Lanes, Ring, reduced};
 
-// A workplace for the symbols of a row, 0 from its width on.
+// A workplace for the symbols of a row, 0 from its width on, which stands beside it: its size is fixed, since there is no heap.
 pub(crate) type Row = [u16; 256];
 
 // A copy of the symbols of a row.

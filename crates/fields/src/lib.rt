@@ -10,7 +10,7 @@ mod tables;
 
 pub use kind::{KindField, UnknownKind};
 
-// As many lanes as a page has check columns at most.
+// As many lanes as a page has check columns at most. An array, since there is no heap; how many are used stands beside it.
 pub const LANES: usize = 64;
 
 pub type Lanes = [u16; LANES];

@@ -74,6 +74,7 @@ fn step<F: Field>(
 
 // The length of a shortest recurrence of the values, and its coefficients in c; or None, with c as it was, where there are more
 // than MOST values. A value of the field's order or above is taken as 0.
+// The coefficients' place is lent, as cells and buffers are, since there is no heap: so a refusal can leave it as it was.
 pub fn shortest_recurrence<F: Field>(
     field: &F,
     values: &[u16],
