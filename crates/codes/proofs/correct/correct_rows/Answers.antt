@@ -1,22 +1,11 @@
 use Rattle.std.proofs.Common.{◌≡◌, ℕ, ◌+◌, ◌-◌, ◌*◌, ◌≤◌, false, List, length, take, drop, get_or, ap, ◌∙◌, subst, arith}
-use Rattle.std.proofs.lemmas.Result.{err_from_is_err_and}
-use Rattle.basics.specs.Checks.{verdict}
-use Rattle.basics.proofs.Checking.{none_from_verdict, some_from_verdict}
 use Rattle.algebra.specs.Rows.{among, taken_row, CloseRow}
-use Rattle.codes.specs.Correct.{correct_fault, FitsChecks}
+use Rattle.codes.specs.Correct.{FitsChecks}
 use Rattle.codes.proofs.Flagging.{flagged_end}
-use Rattle.codes.proofs.Rowing.{until_none, until_more, once_lent, same_lent, row_inside}
-use Rattle.codes.proofs.Restoring.{Restored, restored_all, lost_here, refused}
+use Rattle.codes.proofs.Rowing.{until_more, once_lent, same_lent, row_inside}
+use Rattle.codes.proofs.Restoring.{Restored, restored_all, lost_here}
 use Rattle.codes.proofs.Weighing.{product_tests, product_part}
 use Rattle.codes.proofs.correct.correct_rows.Goals as goal
-
-pub loop-k-init : goal.loop-k-init
-loop-k-init g c = until_none _ _ _
-
-pub overflow_mul-k : goal.overflow_mul-k
-overflow_mul-k g c =
-    let f = c.in_ok-check.ensures.fits in
-    let h = row_inside c.loop-k.k c.args.width (length c.args.rows.now) f.some c.loop-k-test.true in omega arith
 
 pub invariant_of-corrector : goal.invariant_of-corrector
 invariant_of-corrector g c =
@@ -57,18 +46,5 @@ returns-in_default-clause-corrected g c =
     (subst (λ (m : ℕ). (cs : List ℕ) → CloseRow (record { ring = g.F.Ring.ops field; point = g.F.Field.points field }) c.args.checks c.args.marked.now
     (taken_row (g.F.Ring.ops field).order (take m (drop (k * n) c.loop-k.rows))) cs → ⊥) wide none)
 
-pub returns-in_err-check : goal.returns-in_err-check
-returns-in_err-check g c =
-    let p = err_from_is_err_and c.from_residual.result c.from_residual.ensures.1 in let e = c.in_err-check.ensures in
-    let q = refused (record { ring = g.F.Ring.ops c.args.field.now; point = g.F.Field.points c.args.field.now }) (g.F.Ring.ops c.args.field.now).order c.args.width c.args.checks
-    c.args.marked.now c.args.rows.now (length c.args.rows.now) c.in_err-check.field-0.0
-    (some_from_verdict _ _ (e.fault ∙ ap (λ (q : ℕ). verdict (correct_fault q c.args.width c.args.checks c.args.marked.now (length c.args.rows.now))) c.order.ensures)) in
-    rw (p.1, p.2) (record { fault = q.0; corrected = q.1 })
-
-pub returns : goal.returns
-returns g c =
-    let e = c.in_ok-check.ensures in
-    record {
-      fault = none_from_verdict _ (e.fault ∙ ap (λ (q : ℕ). verdict (correct_fault q c.args.width c.args.checks c.args.marked.now (length c.args.rows.now))) c.order.ensures);
-      corrected = restored_all _ _ _ _ _ c.loop-k.k _ e.fits.some c.loop-k-test.false c.loop-k.invariant;
-    }
+pub returns-clause-corrected : goal.returns-clause-corrected
+returns-clause-corrected g c = restored_all _ _ _ _ _ c.loop-k.k _ c.in_ok-check.ensures.fits.some c.loop-k-test.false c.loop-k.invariant

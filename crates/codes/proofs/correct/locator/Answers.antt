@@ -1,5 +1,4 @@
-use Rattle.std.proofs.Common.{◌≡◌, ℕ, Bool, false, List, length, get_or, ap, ◌∙◌, arith}
-use Rattle.algebra.specs.Polynomials.{product}
+use Rattle.std.proofs.Common.{ℕ, Bool, false, List, get_or, ap, ◌∙◌}
 use Rattle.codes.proofs.Nested.{product_none, product_more, product_kept}
 use Rattle.codes.proofs.correct.locator.Goals as goal
 use Rattle.codes.proofs.correct.locator.Goals.{then-flagged, else-flagged}
@@ -15,8 +14,3 @@ loop-k-preserved g c =
           ∙ product_more o t p k _ c.loop-k.locator _ w.if-flagged.true w.point.ensures.value c.loop-k.invariant w.times_factor-locator.ensures j h
       | else-flagged w ↦ λ j h. ap (λ (cs : List ℕ). get_or cs j 0) w.locator-is ∙ product_kept o t p k c.loop-k.locator w.if-flagged.false c.loop-k.invariant j h
     ]
-
-pub returns : goal.returns
-returns g c =
-    let e : c.loop-k.k ≡ length c.args.columns.now = omega arith in let f = c.args.field.now in
-    λ j h. c.loop-k.invariant j h ∙ ap (λ (n : ℕ). product (g.F.Ring.ops f) n (λ k. get_or c.args.columns.now k false) (g.F.Field.points f) j) e

@@ -1,17 +1,7 @@
-use Rattle.std.proofs.Common.{◌≡◌, ℕ, ◌+◌, ◌-◌, ◌*◌, ◌≤◌, length, take, drop, ap, ◌∙◌, subst, arith}
-use Rattle.basics.specs.Checks.{verdict}
+use Rattle.std.proofs.Common.{◌≡◌, ℕ, ◌+◌, ◌-◌, ◌*◌, ◌≤◌, length, take, drop, subst, arith}
 use Rattle.algebra.specs.Rows.{Filled}
-use Rattle.codes.specs.Fill.{fill_fault}
-use Rattle.codes.proofs.Rowing.{until_none, until_more, until_all, row_inside, once_lent}
+use Rattle.codes.proofs.Rowing.{until_more, until_all, row_inside, once_lent}
 use Rattle.codes.proofs.fill.fill_rows.Goals as goal
-
-pub loop-k-init : goal.loop-k-init
-loop-k-init g c = until_none _ _ _
-
-pub overflow_mul-k : goal.overflow_mul-k
-overflow_mul-k g c =
-    let f = c.in_ok-check.ensures.fits.row in
-    let h = row_inside c.loop-k.k c.args.width (length c.args.rows.now) f.some c.loop-k-test.true in omega arith
 
 pub loop-k-preserved : goal.loop-k-preserved
 loop-k-preserved g c =
@@ -22,10 +12,6 @@ loop-k-preserved g c =
     (once_lent _ n (k * n) (k * n + n - k * n) c.loop-k.rows c.fill.new.symbols wide inside (omega arith) (omega arith)
     (subst (λ (m : ℕ). Filled (record { ring = g.F.Ring.ops c.args.field.now; point = g.F.Field.points c.args.field.now }) c.args.columns.now (take m (drop (k * n) c.loop-k.rows)) c.fill.new.symbols) wide c.fill.ensures))
 
-pub returns : goal.returns
-returns g c =
-    let e = c.in_ok-check.ensures in
-    record {
-      fault = e.fault ∙ ap (λ (q : ℕ). verdict (fill_fault q c.args.width c.args.columns.now (length c.args.rows.now))) c.order.ensures;
-      filled = record { long = c.loop-k.invariant.long; rows = until_all _ _ _ c.loop-k.k _ e.fits.row.some c.loop-k-test.false c.loop-k.invariant };
-    }
+pub returns-clause-filled : goal.returns-clause-filled
+returns-clause-filled g c =
+    record { long = c.loop-k.invariant.long; rows = until_all _ _ _ c.loop-k.k _ c.in_ok-check.ensures.fits.row.some c.loop-k-test.false c.loop-k.invariant }

@@ -1,7 +1,6 @@
-use Rattle.std.proofs.Common.{◌≡◌, ◌<◌, [], length, get_or, ap, ◌∙◌, arith}
+use Rattle.std.proofs.Common.{◌<◌, [], length, ◌∙◌, arith}
 use Rattle.std.proofs.lemmas.List.{length-take, get_or-take}
 use Rattle.basics.proofs.Updating.{get_d_zeros}
-use Rattle.fields.specs.Rings.{entry}
 use Rattle.codes.specs.Fill.{nested}
 use Rattle.codes.proofs.Nested.{nested_more}
 use Rattle.codes.proofs.Tables.{lanes}
@@ -16,9 +15,3 @@ loop-terms-preserved g c =
     let i = c.loop-terms.terms-index in let z = length-take (length c.args.points.now) c.args.table.now in let h : i < (length c.args.points.now) = omega arith in
     let e = get_or-take (length c.args.points.now) c.args.table.now i [] h in
     λ k h. rw (← e) (lanes c.requires c.horner_step-sums.ensures k h) ∙ nested_more _ _ _ _ _ (c.loop-terms.invariant k h)
-
-pub returns : goal.returns
-returns g c =
-    let z = length-take (length c.args.points.now) c.args.table.now in
-    let e : c.loop-terms.terms-index ≡ (length c.args.points.now) = omega (arith, c.requires) in
-    λ k h. c.loop-terms.invariant k h ∙ ap (nested (g.R.Ring.ops c.args.ring.now) (get_or c.args.points.now k 0) (λ j. entry c.args.table.now j k)) e

@@ -12,10 +12,3 @@ loop-i-preserved g c =
     let z = length-take c.min-count.result c.args.rows.now in
     let e = get_or-take c.min-count.result c.args.rows.now c.loop-i.i [] (omega arith) in
     combined_more _ _ _ _ _ _ _ c.loop-i.invariant (rw (← e) c.scale_add.ensures)
-
-pub returns : goal.returns
-returns g c =
-    let cs = c.args.coefficients.now in let rows = c.args.rows.now in
-    let z = length-take c.min-count.result rows in
-    let e : c.loop-i.i ≡ min (length cs) (length rows) = omega arith in
-    subst (λ (n : ℕ). Combined (g.Self.Ring.ops c.args.self.now) c.args.width n cs rows c.loop-i.sums) e c.loop-i.invariant

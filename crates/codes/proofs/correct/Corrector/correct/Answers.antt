@@ -1,12 +1,7 @@
-use Rattle.std.proofs.Common.{sym, refl, subst, arith}
+use Rattle.std.proofs.Common.{sym, refl, subst}
 use Rattle.algebra.specs.Rows.{Corrected, taken_row}
-use Rattle.codes.proofs.Restoring.{copied_in, none_close, restored}
+use Rattle.codes.proofs.Restoring.{none_close, restored}
 use Rattle.codes.proofs.correct.Corrector.correct.Goals as goal
-
-pub decode-requires : goal.decode-requires
-decode-requires g c =
-    let low = (g.met.F.Ring.ring c.args.self.now.field.now).low in let wide = c.requires in
-    λ k h. copied_in _ _ _ _ (omega arith) c.cleared-row.ensures k (omega arith)
 
 pub returns-in_default : goal.returns-in_default
 returns-in_default g c =

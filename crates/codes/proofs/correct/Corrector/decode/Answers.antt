@@ -1,6 +1,5 @@
-use Rattle.std.proofs.Common.{ℕ, List, take, sym, refl, subst, arith}
+use Rattle.std.proofs.Common.{take, refl, arith}
 use Rattle.fields.specs.Rings.{FieldOps}
-use Rattle.algebra.specs.Rows.{CloseRow}
 use Rattle.codes.proofs.Nearing.{zero_part, code_from_zero, close_self}
 use Rattle.codes.proofs.correct.Corrector.decode.Goals as goal
 
@@ -11,11 +10,3 @@ returns-then-all_zero g c =
     (code_from_zero k t.width t.checks row c.syndromes_of-syndromes.result me.ready.fits.few (omega arith) c.syndromes_of-syndromes.ensures c.requires
     (zero_part t.checks c.syndromes_of-syndromes.result (omega (arith, me.ready.fits.checks)) (c.if-all_zero.ensures.yes refl)))
     me.ready.fits.marks
-
-pub returns-then-not-is_close : goal.returns-then-not-is_close
-returns-then-not-is_close g c =
-    let me = c.args.self.now in let f = me.field.now in let t = me.tables in let row = c.args.row.now in let k : FieldOps = record { ring = g.F.Ring.ops f; point = g.F.Field.points f } in
-    λ cs near. c.if-not-is_close.ensures.no refl (subst (λ (zs : List ℕ). CloseRow k t.checks me.marked.now (take t.width row) zs) (sym (c.candidate-repaired.ensures.only cs near)) near)
-
-pub returns : goal.returns
-returns g c = c.if-not-is_close.ensures.yes refl

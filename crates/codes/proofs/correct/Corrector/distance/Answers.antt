@@ -1,4 +1,4 @@
-use Rattle.std.proofs.Common.{◌≡◌, ℕ, suc, ◌+◌, ◌<◌, Bool, false, not, ◌||◌, cond, eqb, get_or, sym, refl, ap, ◌∙◌, ap₂, add-one, arith}
+use Rattle.std.proofs.Common.{ℕ, suc, ◌+◌, ◌<◌, Bool, false, not, ◌||◌, cond, eqb, get_or, sym, refl, ap, ◌∙◌, ap₂, add-one, arith}
 use Rattle.std.proofs.lemmas.List.{length-take, get_or-take}
 use Rattle.algebra.specs.Rows.{count}
 use Rattle.algebra.proofs.Count.{count_last, count_most}
@@ -22,9 +22,7 @@ loop-k-preserved g c =
     let e = ap (λ m. cond (not (m || eqb (get_or c.args.a.now k 0) (get_or c.args.b.now k 0))) 1 0) (get_or-take me.tables.width me.tables.marks k false h) in
     rw (add-one k) (ap₂ ◌+◌ c.loop-k.invariant (c.differs-total.ensures ∙ e) ∙ sym (count_last k t))
 
-pub returns : goal.returns
-returns g c =
+pub returns-clause-few : goal.returns-clause-few
+returns-clause-few g c =
     let me = c.args.self.now in let z = length-take me.tables.width me.tables.marks in let few = me.ready.fits.few in
-    let t : ℕ → Bool = λ k. not (get_or me.tables.marks k false || eqb (get_or c.args.a.now k 0) (get_or c.args.b.now k 0)) in
-    let e : c.loop-k.k ≡ me.tables.width = omega arith in
-    record { few = omega (arith, count_most c.loop-k.k t, c.loop-k.invariant); value = c.loop-k.invariant ∙ ap (λ (n : ℕ). count n t) e }
+    omega (arith, c.loop-k.invariant, count_most c.loop-k.k (λ k. not (get_or me.tables.marks k false || eqb (get_or c.args.a.now k 0) (get_or c.args.b.now k 0))))
