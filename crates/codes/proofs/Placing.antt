@@ -1,12 +1,9 @@
 -- Values set at places of a row.
-use Rattle.std.proofs.Common.{◌≡◌, ℕ, ◌+◌, ◌<◌, true, List, length, get_or, set, sym, refl, ◌∙◌, arith, length-set, get_or-set_other, get_or-set_same}
+use Rattle.std.proofs.Common.{◌≡◌, ℕ, ◌+◌, ◌<◌, true, List, length, get_or, set, sym, ◌∙◌, arith, length-set, get_or-set_other, get_or-set_same}
 use native.Mathlib.Decide.{ℕ_discrete}
 use Rattle.algebra.specs.Rows.{rising}
 use Rattle.algebra.proofs.Columns.{rising_apart}
 use Rattle.codes.specs.Fill.{Placed}
-
-pub placed_none : (ms vs xs : List ℕ) → Placed 0 ms vs xs xs
-placed_none ms vs xs = record { long = refl; at = λ k h. absurd (omega arith); off = λ i h. refl }
 
 -- one more column
 pub placed_more : (n b m : ℕ) (ms vs xs ys : List ℕ) → rising b m ms ≡ true → n < length ms → get_or ms n 0 < length xs → Placed n ms vs xs ys

@@ -2,7 +2,6 @@
 use Rattle.std.proofs.Common.{◌≡◌, ℕ, ◌+◌, ◌-◌, ◌*◌, ◌/◌, ◌%◌, ◌<◌, ◌≤◌, min, Bool, true, false, cond, not, ◌||◌, eqb, ltb, List, length, get_or, take, drop, Some, None, sym, refl, ap, ◌∙◌, subst, arith}
 use lib.ListN.{length-map}
 use Rattle.std.proofs.lemmas.List.{get_or-map, get_or-take}
-use Rattle.std.proofs.lemmas.Bool.Decides.{nat_tests}
 use Rattle.basics.specs.Checks.{check, ◌or_else◌}
 use Rattle.fields.specs.Rings.{FieldOps, RingLaws, Inverses, Points, taken}
 use Rattle.algebra.specs.Rows.{among, rising, taken_row, CloseRow, Corrected}
@@ -13,14 +12,6 @@ use Rattle.codes.specs.declared.correct.CorrectFault.{CorrectFault}
 use Rattle.codes.specs.declared.correct.CorrectFault.TheVariants.{Width, Checks, Marking, Length, Lost}
 use Rattle.codes.proofs.Nearing.{part_long}
 use Rattle.codes.proofs.Rowing.{part_same, Until, until_all}
-
--- the cleared copy is a row of elements
-pub copied_in : (q : ℕ) (ms xs row : List ℕ) → 0 < q → Copied q ms xs row → (k : ℕ) → k < length xs → get_or row k 0 < q
-copied_in q ms xs row pos w k h = subst (λ (a : ℕ). a < q) (sym (w.is k h)) (go (among k ms))
-  where
-    go : (b : Bool) → cond b 0 (taken q (get_or xs k 0)) < q
-    go true = pos
-    go false = grind (arith, nat_tests)
 
 module _ (f : FieldOps) (n r : ℕ) (ms xs cleared : List ℕ) (few : n ≤ 256) (wide : length xs ≡ n) (w : Copied f.ring.order ms xs cleared) where
   abbrev X : List ℕ

@@ -170,9 +170,6 @@ row_ends : (j k n : ℕ) → j < k → j * n + n ≤ k * n
 row_ends j k n h = omega (arith, mul-le (j + 1) n k n (omega arith) (omega arith), add-mul j 1 n)
 
 module _ (P : List ℕ → List ℕ → Type 0) (n : ℕ) (xs : List ℕ) where
-  pub until_none : Until P n 0 xs xs
-  until_none = record { long = refl; rows = λ j h. absurd (omega arith); rest = λ i h. refl }
-
   pub until_more : (k : ℕ) (ys zs : List ℕ) → Until P n k xs ys → Once P n (k * n) ys zs → Until P n (k + 1) xs zs
   until_more k ys zs u a = record {
     long = a.long ∙ u.long;
