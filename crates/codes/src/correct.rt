@@ -30,8 +30,8 @@ pub enum CorrectFault {
 }
 
 // What correcting needs of every row: how many columns and checks there are, the powers 1 and up of each column's point, its
-// inverse, the marked columns, and the product of 1 − a z over their points a. Each stands in a list of its own, since sums go
-// over whole lists of powers, and products over whole lists of coefficients.
+// inverse, the marked columns, and the product of 1 − a z over their points a.
+// Lists of their own, and not one of columns: sums go over whole lists of powers, and the rules speak of each list by itself.
 #[derive(Drop)]
 struct Tables {
     width: usize,
@@ -56,6 +56,7 @@ struct Corrector<'a, F: Field> {
 struct Recurrence {
     c: Coefficients,
     l: usize,
+    ghost short: { l ≤ 64 },
 }
 
 // The damaged columns, and what Forney's formula divides: the value of the one polynomial by that of the other.
@@ -67,7 +68,7 @@ struct Damage {
 }
 
 // What stands against correcting.
-// Filling has the same tests of width and length: shared, three comparisons would need a clause longer than they are.
+// Filling tests width and length alike: a function for these comparisons would have a clause longer than they are.
 fn check(
     order: u16,
     width: usize,
@@ -120,7 +121,7 @@ pub fn flags(marked: &[u16]) -> [bool; 256]
 }
 
 // The product of 1 − a z over the points a of the flagged columns.
-// By flags, and not by a list of points as in filling, since more columns may be flagged than there are lanes.
+// Filling takes a list of points: here more may be flagged than a list holds, and that both products agree is a theorem nobody needs.
 fn locator<F: Field>(field: &F, columns: &[bool]) -> Coefficients
     requires { length columns.now ≤ 256 }
     ensures { (j : ℕ) → j < 65 → slice_index result j ≡ product (F.Ring.ops field.now) (length columns.now) (λ k. get_or columns.now k false) (F.Field.points field.now) j }
@@ -147,6 +148,7 @@ fn times_syndromes<R: Ring>(ring: &R, c: &Coefficients, syndromes: &Lanes, check
 }
 
 // a, added as often as `often` says.
+// A loop that only counts its turns, since a ring has no product by a whole number.
 fn multiple_of<R: Ring>(ring: &R, often: usize, a: u16) -> u16
     ensures { result ≡ multiple (R.Ring.ops ring.now) often a }
 {
@@ -173,7 +175,6 @@ fn derivative_of<R: Ring>(ring: &R, c: &Coefficients, checks: usize) -> Lanes
 fn shortest<F: Field>(field: &F, values: &[u16]) -> Recurrence
     requires { length values.now ≤ 64 }
     ensures long { length result.c ≡ 65 }
-    ensures short { result.l ≤ 64 }
     ensures shortest { Shortest (F.Ring.ops field.now) values.now result.l result.c }
 {
     let mut c = [0; 65];
@@ -185,7 +186,6 @@ fn shortest<F: Field>(field: &F, values: &[u16]) -> Recurrence
 
 // Whether a column is damaged: it is marked, or the recurrence is 0 at the inverse of its point.
 fn is_damaged<R: Ring>(ring: &R, marked: bool, found: &Recurrence, inverse: u16) -> bool
-    requires { found.now.l ≤ 64 }
     ensures { result ≡ (marked || value_at (R.Ring.ops ring.now) (take (found.now.l + 1) found.now.c) inverse == 0) }
 {
     marked || evaluate(ring, &found.c[..found.l + 1], inverse) == 0
@@ -194,7 +194,6 @@ fn is_damaged<R: Ring>(ring: &R, marked: bool, found: &Recurrence, inverse: u16)
 impl<'a, F: Field> Corrector<'a, F> {
     // The damaged columns.
     fn damaged(&self, found: &Recurrence) -> [bool; 256]
-        requires { found.now.l ≤ 64 }
         ensures { Flagged self.now.tables.width (λ k. slice_index_or self.now.tables.marks k false || value_at (F.Ring.ops self.now.field.now) (take (found.now.l + 1) found.now.c) (slice_index self.now.tables.inverses k) == 0) result }
     {
         let tables = &self.tables;

@@ -39,6 +39,7 @@ struct Filler<'a, F: Field> {
 }
 
 // What stands against filling.
+// Correcting tests width and length alike: a function for these comparisons would have a clause longer than they are.
 fn check(order: u16, width: usize, columns: &[u16], size: usize) -> Result<(), FillFault>
     ensures fault { result ≡ verdict (fill_fault order width columns.now size) }
     ensures fits { OnOk result (Fits order width columns.now size) }
@@ -69,6 +70,7 @@ fn points_of<F: Field>(field: &F, columns: &[u16]) -> Lanes
 }
 
 // The product of 1 − a z over the points a.
+// Correcting goes by flags: there more may be flagged than a list holds, and that both products agree is a theorem nobody needs.
 fn locator<R: Ring>(ring: &R, points: &[u16]) -> Coefficients
     requires { length points.now ≤ 64 }
     ensures { (j : ℕ) → j < 65 → slice_index result j ≡ product (R.Ring.ops ring.now) (length points.now) (λ _. true) (λ k. slice_index points.now k) j }

@@ -26,6 +26,7 @@ pub struct UnknownKind {
 }
 
 // What the products and inverses of a kind are looked up in.
+#[derive(Clone, Copy)]
 enum Lookup {
     Inverses(&'static [u16]),
     Logarithms(&'static [u16]),
@@ -91,7 +92,7 @@ impl KindField {
     fn is_prime(&self) -> bool
         ensures { result ≡ nat_lt (number_of self.now) 5 }
     {
-        self.kind() < 5
+        matches!(self.lookup(), Lookup::Inverses(_))
     }
 
     fn powers(&self) -> &'static [u16]

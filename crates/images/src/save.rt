@@ -15,7 +15,7 @@ use pages::page::Page;
 use rules::fault::{Buffer, PageFault};
 
 // An image that is begun and owed an end: how many cells it has, and how many of its level blocks have been put.
-// It holds plain numbers, and whether it was ended is one of them: its Drop demands that.
+// It holds plain numbers, and whether it was ended is one of them: what its Drop demands can be said only of what it holds.
 pub struct Begun {
     cells: usize,
     put: usize,

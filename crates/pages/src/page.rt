@@ -75,7 +75,8 @@ impl<F: Field + Drop> Page<F> {
         self.plan.marking()
     }
 
-    // The checks of an order on the page's own numbers.
+    // The checks of an order on the page's own numbers. Every page passes them, by its type; the calls still make them first, since
+    // their order of refusals begins with them.
     pub fn check(&self) -> Result<(), PageFault>
         ensures fault { result ≡ verdict (numbers_fault (over self.now)) }
         ensures ranges { OnOk result (Ranges (F.Ring.ops self.now.field).order self.now.plan.numbers) }
@@ -192,6 +193,7 @@ impl<F: Field + Drop> Page<F> {
     }
 
     // Sets the cells to the message symbols, and to 0 in the check columns.
+    // That a buffer is as long as the page asks, each of these says: a struct round a buffer that is written would have to say what stays.
     fn lay_symbols(&self, cells: &mut [u16], symbols: &[u16])
         requires symbols { length symbols.now ≡ symbol_count (over self.now) }
         requires cells { length cells.old ≡ cell_count (over self.now) }

@@ -7,7 +7,7 @@ ghost use Rattle.plans.specs.Marks.{mark_refusal};
 use fields::UnknownKind;
 use std::fmt;
 
-// A refusal as every caller sees it: its number, and two places, 0 where none is named.
+// A refusal as every caller sees it, also one in C: its number, and two places, 0 where none is named.
 #[derive(Clone, Copy, PartialEq, Eq, Debug)]
 pub struct Refusal {
     pub number: u16,

@@ -19,6 +19,7 @@ pub struct Numbers {
 
 impl Numbers {
     // Whether a page with these numbers can be ordered over a field of this order.
+    // By comparisons: with `contains` of a range the proof of three of its cases does not close.
     pub fn check(&self, order: u16) -> Result<(), OrderFault>
         ensures fault { result ≡ verdict (order_fault order self.now) }
         ensures ranges { OnOk result (Ranges order self.now) }

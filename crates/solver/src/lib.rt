@@ -74,7 +74,7 @@ fn step<F: Field>(
 
 // The length of a shortest recurrence of the values, and its coefficients in c; or None, with c as it was, where there are more
 // than MOST values. A value of the field's order or above is taken as 0.
-// The coefficients' place is lent, as cells and buffers are, since there is no heap: so a refusal can leave it as it was.
+// c is lent and no part of the answer, since that a refusal leaves it as it was is promised too.
 pub fn shortest_recurrence<F: Field>(
     field: &F,
     values: &[u16],
@@ -92,7 +92,7 @@ pub fn shortest_recurrence<F: Field>(
         inverse: 1,
     };
     let mut l = 0;
-    // i is no place of an entry, but how many values are taken into account
+    // a step reads all values up to i, so it is given i and no entry
     for i in 0..values.len() {
         l = step(field, values, i, c, l, &mut before);
     }

@@ -1,6 +1,5 @@
-use Rattle.std.proofs.Common.{◌≡◌, ℕ, min, length, subst, arith, []}
+use Rattle.std.proofs.Common.{arith, []}
 use Rattle.std.proofs.lemmas.List.{length-take, get_or-take}
-use Rattle.fields.specs.Rings.{Combined}
 use Rattle.fields.proofs.Lanes.{combined_none, combined_more}
 use Rattle.fields.proofs.Ring.combine.Goals as goal
 
