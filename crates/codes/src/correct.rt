@@ -8,9 +8,9 @@ ghost use Rattle.algebra.specs.Recurrences.{at, Shortest};
 ghost use Rattle.algebra.specs.Coefficients.{product_entry, value_at};
 ghost use Rattle.codes.specs.Correct.{correct_fault, FitsChecks, Flagged, repaired_at, Tells, Ready, Syndromes, LostSymbols, refusal, CorrectedRows, Left};
 
-use crate::rows::{Row, cleared, power_table, rises, rules};
+use crate::rows::{Row, cleared, power_table, rises};
 use algebra::poly::{Coefficients, evaluate, one, product_at, times_factor};
-use fields::{Field, LANES, Lanes, Ring};
+use fields::{Field, LANES, Lanes, Ring, rules};
 use solver::shortest_recurrence;
 use std::array;
 
@@ -253,6 +253,7 @@ impl<'a, F: Field> Corrector<'a, F> {
             .combine(&row[..tables.width], &tables.powers, tables.checks)
     }
 
+    // That a row's symbols are elements is asked by each: a type of row that keeps it would be made anew at each step.
     // The row that is close enough, if there is one: a shortest recurrence of the syndromes, without what the marked columns add to
     // them, is 0 at the inverses of the points of the other columns that are damaged, and Forney's values repair them.
     fn candidate(&self, row: &Row, syndromes: &Lanes) -> Row
@@ -303,15 +304,13 @@ impl<'a, F: Field> Corrector<'a, F> {
         Some(repaired)
     }
 
-    // Corrects one row, or leaves it where no code row is close enough to it.
+    // Corrects one row, or leaves it where no code row is close enough to it: None says just that, so there is no type of error.
     fn correct(&self, symbols: &mut [u16]) -> Option<()>
         requires { length symbols.old ≡ self.now.tables.width }
         ensures { MatchOption result (LostSymbols (record { ring = F.Ring.ops self.now.field.now; point = F.Field.points self.now.field.now }) self.now.tables.checks self.now.marked.now symbols.old symbols.new) (λ _. Corrected (record { ring = F.Ring.ops self.now.field.now; point = F.Field.points self.now.field.now }) self.now.tables.checks self.now.marked.now (taken_row (F.Ring.ops self.now.field.now).order symbols.old) symbols.new) }
     {
         let row = cleared(self.field, self.marked, symbols);
-        let Some(found) = self.decode(&row) else {
-            return None;
-        };
+        let found = self.decode(&row)?;
         symbols.copy_from_slice(&found[..self.tables.width]);
         Some(())
     }
@@ -328,7 +327,7 @@ fn all_zero(values: &[u16]) -> bool
 fn differs(marked: bool, a: u16, b: u16) -> usize
     ensures { result ≡ (if not (marked || a == b) then 1 else 0) }
 {
-    if marked || a == b { 0 } else { 1 }
+    usize::from(!(marked || a == b))
 }
 
 // Corrects every row of `width` symbols: each becomes the one code row, with that many checks, that is close enough to it, which

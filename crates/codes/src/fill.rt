@@ -7,9 +7,9 @@ ghost use Rattle.algebra.specs.Rows.{Filled};
 ghost use Rattle.algebra.specs.Polynomials.{product};
 ghost use Rattle.codes.specs.Fill.{fill_fault, Fits, FitsRow, Tabled, power_of, filler_of, FilledRows, nested};
 
-use crate::rows::{cleared, place, power_table, rises, rules};
+use crate::rows::{cleared, place, power_table, rises};
 use algebra::poly::{Coefficients, one, times_factor};
-use fields::{Field, LANES, Lanes, Ring};
+use fields::{Field, LANES, Lanes, Ring, rules};
 
 // Why rows are not filled.
 #[derive(Clone, Copy, PartialEq, Eq, Debug)]

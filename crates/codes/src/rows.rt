@@ -1,7 +1,7 @@
 // What every work on rows shares: a row's copy, its columns, and the powers of the columns' points.
 ghost use Rattle.std.specs.Prelude.{◌≡◌, ◌+◌, ◌<◌, ◌≤◌, true, length, replicate, slice_index};
 ghost use Rattle.basics.specs.Lists.{Updated};
-ghost use Rattle.fields.specs.Rings.{Inverses, Points, taken, power};
+ghost use Rattle.fields.specs.Rings.{taken, power};
 ghost use Rattle.algebra.specs.Rows.{rising};
 ghost use Rattle.codes.specs.Fill.{Tabled, power_of, Placed, Copied};
 
@@ -45,6 +45,7 @@ pub(crate) fn cleared<R: Ring>(ring: &R, columns: &[u16], symbols: &[u16]) -> Ro
 }
 
 // Whether the columns rise, each below the width.
+// A page's marking is tested alike, to say where it is wrong: the rules of each speak so, one of whether and one of where.
 pub(crate) fn rises(columns: &[u16], width: usize) -> bool
     ensures { result ≡ rising 0 width columns.now }
 {
@@ -83,13 +84,4 @@ pub(crate) fn power_table<F: Field>(field: &F, width: usize, count: usize) -> [L
         *powers = powers_of(field, field.point(i as u16), count);
     }
     table
-}
-
-// The rules of inverses and points, which the field's functions promise of every element.
-pub(crate) fn rules<F: Field>(field: &F)
-    ensures inverses { Inverses (F.Ring.ops field.now) (F.Field.inv field.now) }
-    ensures points { Points (F.Ring.ops field.now) (F.Field.points field.now) }
-{
-    let _ = field.inverse(1);
-    let _ = field.point(0);
 }

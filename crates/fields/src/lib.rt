@@ -76,3 +76,12 @@ pub trait Field: Ring {
         ensures value { result ≡ points self.now column }
         ensures rule { Points (Self.Ring.ops self.now) (points self.now) };
 }
+
+// The rules of inverses and points, which the field's functions promise of every element.
+pub fn rules<F: Field>(field: &F)
+    ensures inverses { Inverses (F.Ring.ops field.now) (F.Field.inv field.now) }
+    ensures points { Points (F.Ring.ops field.now) (F.Field.points field.now) }
+{
+    let _ = field.inverse(1);
+    let _ = field.point(0);
+}

@@ -185,6 +185,7 @@ impl Raw {
 }
 
 // As many of the bytes as an image can have, and zeros after them.
+// A plan pads its columns alike, which are never too many: two lines each, of other types and sizes.
 fn kept(bytes: &[u8]) -> Bytes
     ensures { length bytes.now ≤ 17408 → (i : ℕ) → slice_index result i ≡ slice_index bytes.now i }
 {

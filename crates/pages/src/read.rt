@@ -15,7 +15,7 @@ ghost use Rattle.pages.specs.Views.{over};
 
 use crate::page::Page;
 use codes::correct::{CorrectFault, correct_rows, flags};
-use fields::{Field, Ring};
+use fields::{Field, Ring, rules};
 use rules::fault::PageFault;
 
 // The cells of a page as they read, and which columns are marked.
@@ -189,7 +189,7 @@ impl<'a, F: Field + Drop> Readings<'a, F> {
         }
     }
 
-    // How many unmarked cells read above their levels, and by how much in all.
+    // How many unmarked cells read above their levels, and by how much in all: the pair that the calls answer.
     fn tally(&self, levels: &[u16]) -> (u32, u32)
         requires { length levels.now ≡ cell_count (of_page self.now) }
         ensures drifted { result.0 ≡ drifted (of_page self.now) (seen self.now).marking (seen self.now).cells levels.now }
@@ -290,8 +290,7 @@ impl<F: Field + Drop> Page<F> {
         ensures law { ReadingLaw (over self.now) }
         ensures runs { RunLaw (over self.now) }
     {
-        let _ = self.field.inverse(1);
-        let _ = self.field.point(0);
+        rules(&self.field);
     }
 
     // The contents of the page of levels that the cells are in reach of, with height 0 in marked columns; how many

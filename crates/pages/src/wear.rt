@@ -1,4 +1,5 @@
 // The calls on one column or one cell, by which what happened to a page is told: mark, raise and jolt.
+// A cell is named by two numbers, its row and its column, as a caller in C hands them.
 ghost use Rattle.std.specs.Prelude.{◌≡◌, ℕ, ◌+◌, ◌*◌, ◌<◌, List, length, IfOk};
 ghost use Rattle.basics.specs.Checks.{fault_of};
 ghost use Rattle.rules.specs.Calls.{Step, event, placed, brought, mark as Mark, raise as Raise, jolt as Jolt};

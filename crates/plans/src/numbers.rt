@@ -71,6 +71,7 @@ impl Numbers {
     }
 
     // The first column of a marking that is not above the one before it, or that the page has not.
+    // Code rows test columns alike, to say whether they rise: the rules of each speak so, one of where and one of whether.
     fn check_columns(&self, marking: &[u16]) -> Result<(), MarkingFault>
         requires { length marking.now ≤ 64 }
         ensures { result ≡ verdict (columns_fault self.now.columns marking.now) }

@@ -114,6 +114,7 @@ impl Plan {
 }
 
 // The columns, and zeros after them.
+// An image pads its bytes alike, and cuts off what is too long: two lines each, of other types and sizes.
 fn padded(columns: &[u16]) -> [u16; 64]
     requires { length columns.now ≤ 64 }
     ensures { take (length columns.now) result ≡ columns.now }

@@ -16,6 +16,7 @@ pub enum Buffer {
 
 impl Buffer {
     // The place by which a refusal names it.
+    // Lengths are tested where they are known: a function for it would take the buffer and both lengths, and say no less.
     pub fn number(self) -> u16
         ensures { result ≡ buffer_number self }
     {

@@ -8,6 +8,6 @@ returns g c =
     let p = over c.args.self.now in let s = c.args.self.now in
     let laws = g.met.F.Ring.ring s.field in
     record {
-      law = readings p (g.F.Field.inv s.field) laws c.inverse.ensures.rule c.point.ensures.rule;
-      runs = run_law p (g.F.Field.inv s.field) laws c.inverse.ensures.rule c.point.ensures.rule;
+      law = readings p (g.F.Field.inv s.field) laws c.rules.ensures.inverses c.rules.ensures.points;
+      runs = run_law p (g.F.Field.inv s.field) laws c.rules.ensures.inverses c.rules.ensures.points;
     }
