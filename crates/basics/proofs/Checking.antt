@@ -22,9 +22,6 @@ module _ {F : Type 0} where
   pub some_first : (a b : Option F) (f : F) → a ≡ Some f → (a or_else b) ≡ Some f
   some_first a b f e = ap (λ o. o or_else b) e
 
-  pub some_second : (a b : Option F) (f : F) → a ≡ None → b ≡ Some f → (a or_else b) ≡ Some f
-  some_second a b f e h = ap (λ o. o or_else b) e ∙ h
-
   pub check_none : (b : Bool) (f : F) → check b f ≡ None → b ≡ false
   check_none true f e = cc
   check_none false f e = refl

@@ -131,7 +131,7 @@ among_inserted c d (m ∷ ms) h =
       | inr ge ↦ elim h [ inl e ↦ b (e ∙ sym (max-eq_left {n = d} {m = m} ge)) | inr e ↦ a (e ∙ sym (min-eq_right {n = m} {m = d} ge)) ]
     ]
 
--- and where they are, it rises
+-- and a list whose columns are below n, each above the one before it, rises
 pub rising_points : (b n : ℕ) (ms : List ℕ) → (0 < length ms → b ≤ get_or ms 0 0) → ((i : ℕ) → i < length ms → get_or ms i 0 < n)
     → ((i : ℕ) → suc i < length ms → get_or ms i 0 < get_or ms (suc i) 0) → rising b n ms ≡ true
 rising_points b n [] first low above = refl
