@@ -1,6 +1,7 @@
 // Runs a page script, from the file that is named as the one argument or from standard input, and prints an answer for each command.
 #![tactic(auto)]
 
+mod answer;
 mod bench;
 
 use anyhow::anyhow;

@@ -5,4 +5,4 @@ pub mod block;
 pub mod fault;
 pub mod open;
 pub mod save;
-mod size;
+pub mod size;

@@ -1,10 +1,11 @@
-// How many blocks the readings of a page take, and cells of another number than is wanted.
+// How many bytes an image takes, and cells of another number than is wanted.
 ghost use Rattle.std.specs.Prelude.{◌≡◌, not, length, OnOk, ◌==◌};
 ghost use Rattle.basics.specs.Checks.{check, verdict};
 ghost use Rattle.rules.specs.declared.fault.Buffer.TheVariants.{Cells};
 ghost use Rattle.rules.specs.declared.fault.PageFault.TheVariants.{Length};
-ghost use Rattle.images.specs.Format.{blocks_of_levels};
+ghost use Rattle.images.specs.Format.{blocks_of_levels, image_size as bytes_of};
 
+use plans::numbers::Numbers;
 use rules::fault::{Buffer, PageFault};
 
 // How many level blocks hold the readings of this many cells.
@@ -12,6 +13,13 @@ pub(crate) fn level_blocks(cells: usize) -> usize
     ensures { result ≡ blocks_of_levels cells }
 {
     cells.div_ceil(254)
+}
+
+// How many bytes the image of a page with these numbers has.
+pub fn image_size(numbers: Numbers) -> usize
+    ensures { result ≡ bytes_of numbers }
+{
+    512 * (1 + level_blocks(numbers.cell_count()))
 }
 
 // Another number of cells than is wanted.

@@ -11,7 +11,7 @@ use lib.ListN.{length-map}
 use Rattle.scripts.specs.Script.{number_of}
 use Rattle.scripts.specs.Commands.{texts, slash_here, AreNumbers, BadNumber, Wrong}
 use Rattle.scripts.specs.declared.command.LineFault.{LineFault}
-use Rattle.scripts.specs.declared.command.LineFault.TheVariants.{NoCommand, NoNumber, OrderForm, WriteForm, ReadForm, NoPage, NoMemory}
+use Rattle.scripts.specs.declared.command.LineFault.TheVariants.{NoCommand, Form, NoNumber, NoByte, NoBytes, NoPage, NoImage, NoPlace, NoMemory}
 
 -- a word more
 pub numbers_more : (ws : List (Bor (List ℕ))) (d : Bor (List ℕ)) (i n : ℕ) (ns : List ℕ) → i < length ws → number_of (get_or ws i d).now ≡ Some n → AreNumbers (take i (texts ws)) ns → AreNumbers (take (i + 1) (texts ws)) (ns ++ n ∷ [])
@@ -102,10 +102,12 @@ bad_part name ws part skip fits at (NoNumber place) h =
     (omega arith, omega arith, ap number_of same ∙ h.2, λ begins slash. false≢true (sym (at i here).1 ∙ sym (ap slash_here same) ∙ slash))
 bad_part name ws part skip fits at NoMemory h = tt
 bad_part name ws part skip fits at NoCommand h = absurd h
-bad_part name ws part skip fits at OrderForm h = absurd h
-bad_part name ws part skip fits at WriteForm h = absurd h
-bad_part name ws part skip fits at ReadForm h = absurd h
+bad_part name ws part skip fits at (Form n) h = absurd h
+bad_part name ws part skip fits at NoByte h = absurd h
+bad_part name ws part skip fits at NoBytes h = absurd h
 bad_part name ws part skip fits at NoPage h = absurd h
+bad_part name ws part skip fits at NoImage h = absurd h
+bad_part name ws part skip fits at NoPlace h = absurd h
 
 module _ (name : List ℕ) (ws before after : List (List ℕ)) (cut : InTwo slash_here ws before after) (fault : LineFault) where
   long : length before ≡ position_or_len slash_here ws

@@ -1,13 +1,19 @@
 // The commands of a page script, and what can be wrong with a line of one.
-ghost use Rattle.std.specs.Prelude.{◌≡◌, ◌+◌, ◌<◌, ◌^◌, ◌∷◌, length, map, codes, MatchResult, IfOk, Some, None};
+ghost use Rattle.std.specs.Prelude.{◌≡◌, ◌≢◌, ◌+◌, ◌<◌, ◌^◌, ◌∷◌, length, map, MatchResult, IfOk, Some, None, Ok};
 ghost use Rattle.std.specs.List.{slice_split};
+ghost use Rattle.std.specs.Option.{MatchOption};
+ghost use Rattle.hex.specs.Hex.{decode_of};
 ghost use Rattle.scripts.specs.Script.{words_of, number_of};
-ghost use Rattle.scripts.specs.Commands.{texts, slash_here, AreNumbers, BadNumber, Understood, Parsed};
-ghost use Rattle.scripts.specs.declared.command.LineFault.TheVariants.{NoMemory, NoNumber};
+ghost use Rattle.scripts.specs.Commands.{texts, slash_here, AreNumbers, BadNumber, BadBytes, Understood, Parsed, word_of};
+ghost use Rattle.scripts.specs.declared.command.Name.{Name};
+ghost use Rattle.scripts.specs.declared.command.Name.TheVariants as name;
+ghost use Rattle.scripts.specs.declared.command.LineFault.TheVariants.{Form, NoMemory, NoNumber};
 
 use crate::words;
+use hex::FromHexError;
 use plans::numbers::Numbers;
 use std::alloc::{AllocError, AllocFailed, Global};
+use std::fmt;
 use thiserror::Error;
 
 // What a line asks for.
@@ -27,6 +33,22 @@ pub enum Command {
         symbols: Vec<u16>,
         heights: Vec<u16>,
     },
+    // a column is marked
+    Mark {
+        column: u16,
+    },
+    // a cell is raised
+    Raise {
+        row: u16,
+        column: u16,
+        amount: u16,
+    },
+    // a marked cell is set
+    Jolt {
+        row: u16,
+        column: u16,
+        reading: u16,
+    },
     // the cells are read into buffers that fit
     Read,
     // the cells are read into buffers of these lengths
@@ -34,6 +56,38 @@ pub enum Command {
         symbols: u16,
         heights: u16,
     },
+    // the cells are set to the page that they decode to
+    Scrub,
+    // the page and the cells become the image
+    Save,
+    // the image is shown
+    Image,
+    // these bytes take the place of the image
+    SetImage(Vec<u8>),
+    // one byte of the image is set
+    Poke {
+        at: u16,
+        byte: u8,
+    },
+    // the image's page and cells take the place of those held
+    Open,
+}
+
+// The first word of a command.
+#[derive(Clone, Copy, PartialEq, Eq, Debug)]
+pub enum Name {
+    Order,
+    Cells,
+    Write,
+    Mark,
+    Raise,
+    Jolt,
+    Read,
+    Scrub,
+    Save,
+    Image,
+    Poke,
+    Open,
 }
 
 // Why a line cannot be carried out.
@@ -41,20 +95,44 @@ pub enum Command {
 pub enum LineFault {
     #[error("the first word is no command")]
     NoCommand,
+    // the command has other words after it than it takes
+    #[error("{0}")]
+    Form(Name),
     // the word in this place, counted from 1
     #[error("word {0} is no number from 0 to 65535")]
     NoNumber(usize),
-    #[error("order takes six numbers: KIND N R ROWS H D")]
-    OrderForm,
-    // there is no slash, or more than one
-    #[error("write takes symbols, one / and heights")]
-    WriteForm,
-    #[error("read takes nothing, or two numbers: NSYMBOLS NHEIGHTS")]
-    ReadForm,
+    #[error("word 3 is no byte from 0 to 255")]
+    NoByte,
+    #[error("word 2 is no bytes of two hexadecimal digits each")]
+    NoBytes,
     #[error("no page has been ordered")]
     NoPage,
+    #[error("no image has been saved or given")]
+    NoImage,
+    #[error("the image has no such byte")]
+    NoPlace,
     #[error("no memory is left for this line")]
     NoMemory,
+}
+
+// What each command takes after its first word.
+impl fmt::Display for Name {
+    fn fmt<W: fmt::Write>(&self, f: &mut fmt::Formatter<W>) -> fmt::Result {
+        f.write_str(match self {
+            Name::Order => "order takes six numbers: KIND N R ROWS H D",
+            Name::Cells => "cells takes any readings",
+            Name::Write => "write takes symbols, one / and heights",
+            Name::Mark => "mark takes one number: COLUMN",
+            Name::Raise => "raise takes three numbers: ROW COLUMN AMOUNT",
+            Name::Jolt => "jolt takes three numbers: ROW COLUMN READING",
+            Name::Read => "read takes nothing, or two numbers: NSYMBOLS NHEIGHTS",
+            Name::Scrub => "scrub takes nothing",
+            Name::Save => "save takes nothing",
+            Name::Image => "image takes nothing, or one word: HEX",
+            Name::Poke => "poke takes two numbers: AT BYTE",
+            Name::Open => "open takes nothing",
+        })
+    }
 }
 
 impl From<AllocError> for LineFault {
@@ -80,20 +158,49 @@ pub fn parse(heap: Global, line: &[u8]) -> Result<Option<Command>, LineFault>
     let words = words::words(heap, line)?;
     match words.as_slice() {
         [] => Ok(None),
-        [name, arguments @ ..] => Ok(Some(understand(heap, name, arguments)?)),
+        [word, arguments @ ..] => Ok(Some(understand(heap, word, arguments)?)),
     }
 }
 
-// What a line asks for that begins with `name`, and goes on with `arguments`.
-fn understand(heap: Global, name: &[u8], arguments: &[&[u8]]) -> Result<Command, LineFault>
-    ensures { Understood (name.now ∷ texts arguments.now) result }
+// The command that a word calls.
+fn named(word: &[u8]) -> Option<Name>
+    ensures { MatchOption result ((n : Name) → word.now ≢ word_of n) (λ n. word.now ≡ word_of n) }
 {
+    Some(match word {
+        b"order" => Name::Order,
+        b"cells" => Name::Cells,
+        b"write" => Name::Write,
+        b"mark" => Name::Mark,
+        b"raise" => Name::Raise,
+        b"jolt" => Name::Jolt,
+        b"read" => Name::Read,
+        b"scrub" => Name::Scrub,
+        b"save" => Name::Save,
+        b"image" => Name::Image,
+        b"poke" => Name::Poke,
+        b"open" => Name::Open,
+        _ => return None,
+    })
+}
+
+// What a line asks for that begins with `word`, and goes on with `arguments`.
+fn understand(heap: Global, word: &[u8], arguments: &[&[u8]]) -> Result<Command, LineFault>
+    ensures { Understood (word.now ∷ texts arguments.now) result }
+{
+    let name = named(word).ok_or(LineFault::NoCommand)?;
     match name {
-        b"order" => order(arguments),
-        b"cells" => cells(heap, arguments),
-        b"write" => write(heap, arguments),
-        b"read" => read(arguments),
-        _ => Err(LineFault::NoCommand),
+        Name::Order => order(arguments),
+        Name::Cells => cells(heap, arguments),
+        Name::Write => write(heap, arguments),
+        Name::Mark => mark(arguments),
+        Name::Raise => raise(arguments),
+        Name::Jolt => jolt(arguments),
+        Name::Read => read(arguments),
+        Name::Scrub => alone(name, arguments, Command::Scrub),
+        Name::Save => alone(name, arguments, Command::Save),
+        Name::Image => image(heap, arguments),
+        Name::Poke => poke(arguments),
+        Name::Open => alone(name, arguments, Command::Open),
     }
 }
 
@@ -118,10 +225,10 @@ fn numbers(heap: Global, place: usize, words: &[&[u8]]) -> Result<Vec<u16>, Line
 
 // The command of a line that begins with `order`.
 fn order(arguments: &[&[u8]]) -> Result<Command, LineFault>
-    ensures { Understood (codes "order" ∷ texts arguments.now) result }
+    ensures { Understood (word_of name.Order ∷ texts arguments.now) result }
 {
     let [kind, columns, checks, rows, heights, drift] = arguments else {
-        return Err(LineFault::OrderForm);
+        return Err(LineFault::Form(Name::Order));
     };
     Ok(Command::Order {
         kind: number(2, kind)?,
@@ -137,7 +244,7 @@ fn order(arguments: &[&[u8]]) -> Result<Command, LineFault>
 
 // The command of a line that begins with `cells`.
 fn cells(heap: Global, arguments: &[&[u8]]) -> Result<Command, LineFault>
-    ensures { Understood (codes "cells" ∷ texts arguments.now) result }
+    ensures { Understood (word_of name.Cells ∷ texts arguments.now) result }
 {
     match arguments {
         [] => Ok(Command::Cells),
@@ -160,11 +267,11 @@ fn parts<'a, 'b>(heap: Global, words: &'a [&'b [u8]]) -> Result<Vec<&'a [&'b [u8
 
 // The command of a line that begins with `write`.
 fn write(heap: Global, arguments: &[&[u8]]) -> Result<Command, LineFault>
-    ensures { Understood (codes "write" ∷ texts arguments.now) result }
+    ensures { Understood (word_of name.Write ∷ texts arguments.now) result }
 {
     let parts = parts(heap, arguments)?;
     let [symbols, heights] = parts.as_slice() else {
-        return Err(LineFault::WriteForm);
+        return Err(LineFault::Form(Name::Write));
     };
     Ok(Command::Write {
         symbols: numbers(heap, 2, symbols)?,
@@ -172,9 +279,49 @@ fn write(heap: Global, arguments: &[&[u8]]) -> Result<Command, LineFault>
     })
 }
 
+// The command of a line that begins with `mark`.
+fn mark(arguments: &[&[u8]]) -> Result<Command, LineFault>
+    ensures { Understood (word_of name.Mark ∷ texts arguments.now) result }
+{
+    let [column] = arguments else {
+        return Err(LineFault::Form(Name::Mark));
+    };
+    Ok(Command::Mark {
+        column: number(2, column)?,
+    })
+}
+
+// The command of a line that begins with `raise`.
+fn raise(arguments: &[&[u8]]) -> Result<Command, LineFault>
+    ensures { Understood (word_of name.Raise ∷ texts arguments.now) result }
+{
+    let [row, column, amount] = arguments else {
+        return Err(LineFault::Form(Name::Raise));
+    };
+    Ok(Command::Raise {
+        row: number(2, row)?,
+        column: number(3, column)?,
+        amount: number(4, amount)?,
+    })
+}
+
+// The command of a line that begins with `jolt`.
+fn jolt(arguments: &[&[u8]]) -> Result<Command, LineFault>
+    ensures { Understood (word_of name.Jolt ∷ texts arguments.now) result }
+{
+    let [row, column, reading] = arguments else {
+        return Err(LineFault::Form(Name::Jolt));
+    };
+    Ok(Command::Jolt {
+        row: number(2, row)?,
+        column: number(3, column)?,
+        reading: number(4, reading)?,
+    })
+}
+
 // The command of a line that begins with `read`.
 fn read(arguments: &[&[u8]]) -> Result<Command, LineFault>
-    ensures { Understood (codes "read" ∷ texts arguments.now) result }
+    ensures { Understood (word_of name.Read ∷ texts arguments.now) result }
 {
     match arguments {
         [] => Ok(Command::Read),
@@ -182,6 +329,53 @@ fn read(arguments: &[&[u8]]) -> Result<Command, LineFault>
             symbols: number(2, symbols)?,
             heights: number(3, heights)?,
         }),
-        _ => Err(LineFault::ReadForm),
+        _ => Err(LineFault::Form(Name::Read)),
+    }
+}
+
+// The bytes that hexadecimal digits write.
+fn bytes(heap: Global, word: &[u8]) -> Result<Vec<u8>, LineFault>
+    ensures { MatchResult result (λ v. decode_of word.now ≡ Ok v.items) (BadBytes word.now) }
+{
+    hex::decode(heap, word).map_err(|error| match error {
+        FromHexError::OutOfMemory => LineFault::NoMemory,
+        _ => LineFault::NoBytes,
+    })
+}
+
+// The command of a line that begins with `image`.
+fn image(heap: Global, arguments: &[&[u8]]) -> Result<Command, LineFault>
+    ensures { Understood (word_of name.Image ∷ texts arguments.now) result }
+{
+    match arguments {
+        [] => Ok(Command::Image),
+        [digits] => Ok(Command::SetImage(bytes(heap, digits)?)),
+        _ => Err(LineFault::Form(Name::Image)),
+    }
+}
+
+// The command of a line that begins with `poke`.
+fn poke(arguments: &[&[u8]]) -> Result<Command, LineFault>
+    ensures { Understood (word_of name.Poke ∷ texts arguments.now) result }
+{
+    let [at, byte] = arguments else {
+        return Err(LineFault::Form(Name::Poke));
+    };
+    let at = number(2, at)?;
+    let byte = number(3, byte)?;
+    match u8::try_from(byte) {
+        Ok(byte) => Ok(Command::Poke { at, byte }),
+        Err(_) => Err(LineFault::NoByte),
+    }
+}
+
+// A command that takes no words after its name.
+fn alone(name: Name, arguments: &[&[u8]], command: Command) -> Result<Command, LineFault>
+    ensures { MatchResult result (λ r. (r ≡ command) × (length arguments.now ≡ 0)) (λ fault. (fault ≡ Form name) × (length arguments.now ≢ 0)) }
+{
+    if arguments.is_empty() {
+        Ok(command)
+    } else {
+        Err(LineFault::Form(name))
     }
 }
