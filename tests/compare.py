@@ -1,14 +1,15 @@
 #!/usr/bin/env python3
-"""Compares a program that runs page scripts with the reference.
+"""Compares a program that runs page scripts with the independent one.
 
     python3 tests/compare.py PROGRAM SCRIPT...
-    python3 tests/compare.py PROGRAM --seeds FIRST LAST --count COUNT [--all]
+    python3 tests/compare.py PROGRAM --seeds FIRST LAST --count COUNT
 
 Runs the scripts that are named, or random ones, through both, and shows the first answer that differs in each.
 Answers that begin `error: ` count as equal. The status is 1 where anything differed.
 """
 
 import argparse
+import concurrent.futures
 import itertools
 import os
 import subprocess
@@ -33,7 +34,7 @@ def same(ours, theirs):
 
 def differs(program, name, script):
     """Whether the program answers a script otherwise than the reference; shows where."""
-    ours = run(python("reference.py"), script).split(b"\n")
+    ours = run(python("bench.py"), script).split(b"\n")
     theirs = run([program], script).split(b"\n")
     for place, (a, b) in enumerate(itertools.zip_longest(ours, theirs), 1):
         if not same(a, b):
@@ -50,8 +51,7 @@ def scripts(options):
     if options.seeds:
         first, last = options.seeds
         for seed in range(first, last + 1):
-            more = ["--all"] if options.all else []
-            yield f"seed {seed}", run(python("random_scripts.py", str(seed), str(options.count), *more), b"")
+            yield f"seed {seed}", run(python("random_scripts.py", str(seed), str(options.count)), b"")
 
 
 def main():
@@ -60,9 +60,9 @@ def main():
     parser.add_argument("scripts", nargs="*")
     parser.add_argument("--seeds", nargs=2, type=int, metavar=("FIRST", "LAST"))
     parser.add_argument("--count", type=int, default=500)
-    parser.add_argument("--all", action="store_true", help="mark, raise, jolt and scrub too")
     options = parser.parse_args()
-    found = [differs(options.program, name, script) for name, script in scripts(options)]
+    with concurrent.futures.ThreadPoolExecutor(os.cpu_count()) as pool:
+        found = list(pool.map(lambda named: differs(options.program, *named), scripts(options)))
     sys.exit(any(found))
 
 

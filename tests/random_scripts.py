@@ -1,14 +1,15 @@
 #!/usr/bin/env python3
 """Prints a random page script.
 
-    python3 tests/random_scripts.py SEED COUNT [--all]
+    python3 tests/random_scripts.py SEED COUNT
 
 It has COUNT lines, each a command or, now and then, a line that is none; the same seed gives the same script.
 Orders go through the seven kinds in turn, with numbers at the edges of what is allowed and just beyond. Most writes have
 buffers that fit; some are one too long or too short, or hold a symbol or a height that is too large. Readings are set at
 random, or as a page that was written with cells that have drifted: by no more than the page allows and in no more
-columns than it corrects, or just beyond; most of these are read in the next line.
-With --all the script also marks, raises, jolts and scrubs.
+columns than it corrects, or just beyond; most of these are read in the next line. Columns are marked, cells raised,
+jolted and scrubbed, accepted and refused. Pages are saved and opened again, and now and then a byte of an image is
+changed, or bytes are given that are no image.
 """
 
 import argparse
@@ -46,18 +47,53 @@ BAD_LINES = [
     "read 2 65536",
     "read 2 / 4",
     "reads",
+    "mark",
+    "mark 1 2",
+    "mark x",
+    "raise 0 1",
+    "raise 0 1 2 3",
+    "raise 0 x 2",
+    "jolt 1 1",
+    "jolt 0 0 65536",
+    "scrub 0",
+    "save 1",
+    "image 4",
+    "image 4g",
+    "image 41 42",
+    "poke 0",
+    "poke 0 256",
+    "poke 0 1 2",
+    "poke 65535 1",
+    "open 1",
+    "hostcheck 1",
+    "hostscrub image",
     "/",
     "7",
 ]
 
 # For want of a page each of these is an error.
-UNORDERED = ["cells", "cells 1", "write 1 / 0 0", "read", "read 2 4"]
+UNORDERED = [
+    "cells",
+    "cells 1",
+    "write 1 / 0 0",
+    "mark 0",
+    "raise 0 0 1",
+    "jolt 0 0 1",
+    "read",
+    "read 2 4",
+    "scrub",
+    "save",
+    "image",
+    "poke 0 0",
+    "open",
+    "hostcheck",
+    "hostscrub",
+]
 
 
 class Script:
-    def __init__(self, seed, everything):
+    def __init__(self, seed):
         self.random = random.Random(seed)
-        self.everything = everything
         self.ordered = 0
         self.page = None  # kind, columns, checks, rows, heights, drift
         self.fitting = False  # whether the cells have the page's length
@@ -253,10 +289,20 @@ class Script:
         self.fitting = self.near = True
         return "cells " + self.numbers(cells)
 
+    def image(self):
+        """A command on an image. An image that was changed has a wrong check, mostly."""
+        if self.chance(50):
+            return self.pick("save", "save", "open", "hostcheck", "hostscrub")
+        if self.chance(60):
+            return f"poke {self.pick(self.random.randrange(32), self.random.randrange(1536))} {self.random.randrange(256)}"
+        if self.chance(50):
+            return "image " + self.pick("00", "414c4d50", "00" * 512, "00" * 1024, "FF" * 1024)
+        return "image"
+
     def later(self):
         """A command on a page that was written."""
         checks = self.page[2]
-        choices = [self.raise_cell, self.raise_cell, self.nearly, self.read, self.read, lambda: "scrub"]
+        choices = [self.raise_cell, self.raise_cell, self.nearly, self.read, self.read, lambda: "scrub", self.image]
         if self.marks < checks + 2:
             choices.append(self.mark)
         if self.marks > 0 or self.chance(5):
@@ -273,7 +319,7 @@ class Script:
             return self.read()
         if not self.fitting and self.chance(50):
             return self.order()
-        if self.everything and self.chance(60):
+        if self.chance(60):
             return self.later()
         return self.pick(self.order, self.write, self.write, self.cells, self.cells, self.nearly, self.nearly, self.read)()
 
@@ -290,9 +336,8 @@ def main():
     parser = argparse.ArgumentParser(description="Prints a random page script.")
     parser.add_argument("seed", type=int)
     parser.add_argument("count", type=int)
-    parser.add_argument("--all", action="store_true", help="mark, raise, jolt and scrub too")
     options = parser.parse_args()
-    script = Script(options.seed, options.all)
+    script = Script(options.seed)
     for _ in range(options.count):
         print(script.line())
 

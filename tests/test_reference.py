@@ -8,7 +8,8 @@ import itertools
 import random
 import unittest
 
-from reference import Bench, Field, Page, field_of, number_of, words_of
+from bench import Bench, number_of, words_of
+from reference import Field, Page, field_of
 
 
 def answers(*lines):
