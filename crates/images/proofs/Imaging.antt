@@ -1,7 +1,8 @@
 -- An image block by block.
-use Rattle.std.proofs.Common.{◌≡◌, ℕ, ◌+◌, ◌-◌, ◌*◌, ◌/◌, ◌%◌, ◌<◌, List, length, get_or, sym, ap, ◌∙◌, ap₂, inl, inr, add-one, arith}
-use Rattle.std.proofs.lemmas.Bool.{cases_lt}
-use Rattle.images.specs.Format.{Stored, words_at, head_at, plain_at, sealed_at, image_at, image_size, image_of}
+use Rattle.std.proofs.Common.{◌≡◌, ℕ, ◌+◌, ◌-◌, ◌*◌, ◌/◌, ◌%◌, ◌<◌, ◌≤◌, cond, List, length, get_or, sym, ap, ◌∙◌, ap₂, inl, inr, add-one, arith}
+use Rattle.std.proofs.lemmas.Bool.{cases_lt, lt-ltb, le-ltb}
+use Rattle.plans.specs.declared.numbers.Numbers.{Numbers}
+use Rattle.images.specs.Format.{Stored, words_at, bytes_of_head, head_at, plain_at, sealed_at, image_at, image_size, image_of}
 use Rattle.images.specs.Saving.{BlockSet, LevelsSet}
 use Rattle.images.proofs.Sealing.{tabled_is}
 
@@ -18,6 +19,15 @@ image_block s b j h = ap₂ (λ c k. sealed_at c (plain_at s c) k) (place_block 
 
 pub image_head : (s : Stored) (j : ℕ) → j < 512 → image_at s j ≡ sealed_at 0 (head_at s.kind s.numbers s.marking) j
 image_head s j h = let e : j ≡ 512 * 0 + j = omega arith in ap (image_at s) e ∙ image_block s 0 j h
+
+-- block 0 before its check: its first bytes, and the marked columns
+pub head_low : (kind : ℕ) (p : Numbers) (ms : List ℕ) (j : ℕ) → j < 16 → head_at kind p ms j ≡ get_or (bytes_of_head kind p (length ms)) j 0
+unfolding head_at
+head_low kind p ms j h = ap (λ t. cond t (get_or (bytes_of_head kind p (length ms)) j 0) (words_at ms (j - 16))) (lt-ltb j 16 h)
+
+pub head_high : (kind : ℕ) (p : Numbers) (ms : List ℕ) (j : ℕ) → 16 ≤ j → head_at kind p ms j ≡ words_at ms (j - 16)
+unfolding head_at
+head_high kind p ms j h = ap (λ t. cond t (get_or (bytes_of_head kind p (length ms)) j 0) (words_at ms (j - 16))) (le-ltb j 16 h)
 
 pub image_levels : (s : Stored) (b j : ℕ) → j < 512 → image_at s (512 * (b + 1) + j) ≡ sealed_at (b + 1) (λ j. words_at s.cells (508 * b + j)) j
 image_levels s b j h =

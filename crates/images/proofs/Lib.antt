@@ -4,4 +4,6 @@ pub mod Imaging
 pub mod Saving
 pub mod Opening
 pub mod Words
+pub mod Saved
+pub mod Shown
 pub mod Both

@@ -1,12 +1,12 @@
 -- Blocks that are sealed by their checks.
-use Rattle.std.proofs.Common.{◌≡◌, ℕ, zero, suc, ◌+◌, ◌-◌, ◌*◌, ◌/◌, ◌<◌, ◌≤◌, Bool, cond, ◌&&◌, eqb, List, [], ◌∷◌, ◌++◌, length, get_or, take, drop, sym, ap, ◌∙◌, ap₂, inl, inr, arith, length-append, length-drop}
+use Rattle.std.proofs.Common.{◌≡◌, ℕ, zero, suc, ◌+◌, ◌-◌, ◌*◌, ◌/◌, ◌<◌, ◌≤◌, Bool, true, cond, ◌&&◌, eqb, List, [], ◌∷◌, ◌++◌, length, get_or, take, drop, sym, ap, ◌∙◌, subst, ap₂, inl, inr, arith, length-append, length-drop}
 use borrow.Rule.Slice.PartMut.{put_mid}
 use Rattle.std.specs.Simd.{first_chunks}
 use Rattle.std.specs.Cmp.Lexicographic.{pointwise}
 use Rattle.std.proofs.Math.Bool.{and_assoc, and-true}
 use Rattle.std.proofs.lemmas.List.{ext_get_or, get_or-take, get_or-drop, get_or_append_left, get_or-append_right, length-take-le, drop_more, drop_all, drop-drop}
 use Rattle.std.proofs.lemmas.List.FromFn.{length-map-range_with_len}
-use Rattle.std.proofs.lemmas.Bool.{cases_lt, lt-ltb, le-ltb}
+use Rattle.std.proofs.lemmas.Bool.{cases_lt, lt-ltb, le-ltb, eqb-true, eq-eqb, and_from, and_parts}
 use Rattle.rules.specs.Pages.{tabled}
 use Rattle.rules.proofs.Drifts.{tabled_at, total_same}
 use Rattle.images.specs.Format.{four_bytes, check_value, sealed, sealed_at}
@@ -24,6 +24,39 @@ sealed_low b f j h = ap (λ t. cond t (f j) (get_or (four_bytes (check_value b f
 pub sealed_high : (b : ℕ) (f : ℕ → ℕ) (j : ℕ) → 508 ≤ j → sealed_at b f j ≡ get_or (four_bytes (check_value b f)) (j - 508) 0
 unfolding sealed_at
 sealed_high b f j h = ap (λ t. cond t (f j) (get_or (four_bytes (check_value b f)) (j - 508) 0)) (le-ltb j 508 h)
+
+-- a block that holds g and then its check is sealed
+pub seal_holds : (b : ℕ) (f g : ℕ → ℕ) → ((j : ℕ) → j < 512 → f j ≡ sealed_at b g j) → sealed b f ≡ true
+unfolding sealed
+seal_holds b f g h =
+    let e = check_same b g f (λ j l. sym (h j (omega arith) ∙ sealed_low b g j l)) in
+    let at = λ (j k : ℕ) (i : j ≡ 508 + k) (l : k < 4). eq-eqb (f j) (get_or (four_bytes (check_value b f)) k 0)
+    (let z : j - 508 ≡ k = omega arith in h j (omega arith) ∙ sealed_high b g j (omega arith) ∙ ap₂ (λ v m. get_or (four_bytes v) m 0) e z) in
+    and_from _ _ (and_from _ _ (at 508 0 (omega arith) (omega arith)) (at 509 1 (omega arith) (omega arith))) (and_from _ _ (at 510 2 (omega arith) (omega arith)) (at 511 3 (omega arith) (omega arith)))
+
+-- what holds of each of four places
+four : (P : ℕ → Type 0) → P 508 → P 509 → P 510 → P 511 → (j : ℕ) → 508 ≤ j → j < 512 → P j
+four P a b c d j h l = elim (cases_lt j 510) [
+  | inl low ↦ elim (cases_lt j 509) [
+    | inl x ↦ let e : 508 ≡ j = omega arith in subst P e a
+    | inr x ↦ let e : 509 ≡ j = omega arith in subst P e b
+  ]
+  | inr high ↦ elim (cases_lt j 511) [
+    | inl x ↦ let e : 510 ≡ j = omega arith in subst P e c
+    | inr x ↦ let e : 511 ≡ j = omega arith in subst P e d
+  ]
+]
+
+-- and a sealed block holds what is before its check, and then that
+pub holds_sealed : (b : ℕ) (f g : ℕ → ℕ) → ((j : ℕ) → j < 508 → f j ≡ g j) → sealed b f ≡ true → (j : ℕ) → j < 512 → f j ≡ sealed_at b g j
+unfolding sealed
+holds_sealed b f g h e j l = elim (cases_lt j 508) [
+  | inl low ↦ h j low ∙ sym (sealed_low b g j low)
+  | inr high ↦
+      let t = and_parts _ _ e in let x = and_parts _ _ t.0 in let y = and_parts _ _ t.1 in
+      four (λ j. f j ≡ get_or (four_bytes (check_value b f)) (j - 508) 0) (eqb-true _ _ x.0) (eqb-true _ _ x.1) (eqb-true _ _ y.0) (eqb-true _ _ y.1) j high l
+      ∙ ap (λ v. get_or (four_bytes v) (j - 508) 0) (check_same b f g h) ∙ sym (sealed_high b g j high)
+]
 
 -- a list by its places
 pub tabled_is : (m : ℕ) (f : ℕ → ℕ) (xs : List ℕ) → length xs ≡ m → ((i : ℕ) → i < m → get_or xs i 0 ≡ f i) → xs ≡ tabled m f

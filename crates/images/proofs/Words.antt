@@ -24,6 +24,10 @@ by_parity P even odd i = elim (cases_lt (i % 2) 1) [
   | inr l ↦ let e : 2 * (i / 2) + 1 ≡ i = omega arith in subst P e (odd (i / 2))
 ]
 
+-- every byte of them is one
+pub words_small : (xs : List ℕ) → (i : ℕ) → words_at xs i < 256
+words_small xs = by_parity (λ i. words_at xs i < 256) (λ c. omega (arith, words_low xs c)) (λ c. omega (arith, words_high xs c))
+
 -- both give the number
 pub words_back : (xs : List ℕ) (c : ℕ) → get_or xs c 0 < 65536 → words_at xs (2 * c) + 256 * words_at xs (2 * c + 1) ≡ get_or xs c 0
 words_back xs c h = omega (arith, words_low xs c, words_high xs c)

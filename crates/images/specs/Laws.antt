@@ -12,10 +12,17 @@ pub record Savable (s : Stored) : Type 0 where
   pub size : length s.cells ≡ cell_count s.numbers
   pub cells_fit : (c : ℕ) → slice_index s.cells c < 65536
 
+-- bytes that open
+pub record Opens (xs : List ℕ) : Type 0 where
+  pub bytes : (i : ℕ) → slice_index xs i < 256
+  pub passes : open_fault (bytes_at xs) (length xs) ≡ None
+
 pub record ImageLaw : Type 0 where
-  -- the image of a page, marking and cells opens, as these
-  pub opens : (s : Stored) → Savable s → open_fault (bytes_at (image_of s)) (length (image_of s)) ≡ None
+  -- the image of what can be saved opens, as that
+  pub opens : (s : Stored) → Savable s → Opens (image_of s)
   pub as_saved : (s : Stored) → Savable s → stored_in (bytes_at (image_of s)) ≡ s
   -- bytes that open hold what can be saved, and are, byte for byte, its image
-  pub holds : (xs : List ℕ) → ((i : ℕ) → slice_index xs i < 256) → open_fault (bytes_at xs) (length xs) ≡ None → Savable (stored_in (bytes_at xs))
-  pub only : (xs : List ℕ) → ((i : ℕ) → slice_index xs i < 256) → open_fault (bytes_at xs) (length xs) ≡ None → xs ≡ image_of (stored_in (bytes_at xs))
+  pub holds : (xs : List ℕ) → Opens xs → Savable (stored_in (bytes_at xs))
+  pub only : (xs : List ℕ) → Opens xs → xs ≡ image_of (stored_in (bytes_at xs))
+  -- so no others open as the same
+  pub unlike : (xs ys : List ℕ) → Opens xs → Opens ys → stored_in (bytes_at xs) ≡ stored_in (bytes_at ys) → xs ≡ ys

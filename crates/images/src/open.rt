@@ -5,9 +5,10 @@ ghost use Rattle.fields.specs.Numbered.{number_of};
 ghost use Rattle.plans.specs.Orders.{outside};
 ghost use Rattle.plans.specs.Marks.{marking_fault};
 ghost use Rattle.rules.specs.Pages.{tabled};
-ghost use Rattle.images.specs.Format.{image_size, blocks_of_levels, cell_count};
+ghost use Rattle.images.specs.Format.{image_size, image_of, blocks_of_levels, cell_count};
 ghost use Rattle.rules.specs.Views.{kind_fault, of_kind};
-ghost use Rattle.images.specs.Opening.{bytes_at, word_at, stream_place, reading_at, numbers_in, marking_in, seal_fault, word_fault, filler_here, filler_fault, open_fault};
+ghost use Rattle.images.specs.Opening.{bytes_at, word_at, stream_place, reading_at, numbers_in, marking_in, stored_in, seal_fault, word_fault, filler_here, filler_fault, open_fault};
+ghost use Rattle.images.specs.Laws.{Savable};
 ghost use Rattle.images.specs.Opened.{Shows, row_fault, cells_fault};
 ghost use Rattle.images.specs.Saving.{OrKept};
 ghost use Rattle.images.specs.declared.fault.ImageFault.TheVariants.{Length, Header, Marking, Blocks};
@@ -55,6 +56,8 @@ impl Raw {
         ensures fault { fault_of result ≡ open_fault (bytes_at self.bytes) self.size }
         ensures bytes { IfOk result (λ opened. opened.bytes ≡ self.bytes) }
         ensures page { IfOk result (λ opened. Shows (bytes_at self.bytes) opened.page) }
+        ensures image { IfOk result (λ _. take self.size self.bytes ≡ image_of (stored_in (bytes_at self.bytes))) }
+        ensures savable { IfOk result (λ _. Savable (stored_in (bytes_at self.bytes))) }
     {
         let page = self.check()?;
         Ok(Opened {

@@ -5,6 +5,7 @@ ghost use Rattle.fields.specs.Numbered.{number_of};
 ghost use Rattle.rules.specs.Pages.{tabled};
 ghost use Rattle.rules.specs.Views.{marking, of_kind};
 ghost use Rattle.images.specs.Format.{head_at, sealed_at, blocks_of_levels, cell_count, image_of};
+ghost use Rattle.images.specs.Laws.{Savable, ImageLaw};
 ghost use Rattle.images.specs.Saving.{BlockSet, OrKept, count_after, LevelsSet, begin_fault, image_fault, put_fault, close_fault, closed, abandoned, save_fault, stored};
 
 use crate::block::{Block, head_block, level_block};
@@ -123,9 +124,12 @@ impl Begun {
 }
 
 // The image of a page and its cells: begun, put block by block, and closed.
+#[tactic(auto, using(crate::proofs::Both::image_law))]
 pub fn save(page: &Page<KindField>, cells: &[u16], image: &mut [u8]) -> Result<(), SaveFault>
     ensures fault { result ≡ verdict (save_fault (of_kind (number_of page.now.field) page.now.plan.numbers) (length cells.now) (length image.old)) }
     ensures image { OrKept result image.old image.new (image.new ≡ image_of (stored (number_of page.now.field) page.now.plan cells.now)) }
+    ensures savable { IfOk result (λ _. Savable (stored (number_of page.now.field) page.now.plan cells.now)) }
+    ensures law { ImageLaw }
 {
     page.check()?;
     check_cells(cells, page.numbers().cell_count())?;

@@ -1,11 +1,13 @@
 use Rattle.std.proofs.Common.{◌≡◌, ℕ, ◌+◌, ◌*◌, length, Ok, sym, ap, ◌∙◌, subst, arith}
 use Rattle.basics.specs.Checks.{verdict}
+use Rattle.basics.proofs.Checking.{none_from_verdict, made_verdict}
 use Rattle.fields.specs.Numbered.{number_of}
 use Rattle.rules.specs.Views.{of_kind}
 use Rattle.images.specs.Format.{blocks_of_levels, cell_count, image_of}
 use Rattle.images.specs.Saving.{LevelsSet, count_after, closed, stored}
 use Rattle.images.proofs.Imaging.{begins_head, begins_more, begins_all}
-use Rattle.images.proofs.Saving.{put_fine, close_fine, begun_size, save_fine, accepted, kept_or}
+use Rattle.images.proofs.Both.{image_law}
+use Rattle.images.proofs.Saving.{savable, put_fine, close_fine, begun_size, save_fine, accepted, kept_or}
 use Rattle.images.proofs.save.save.Goals as goal
 
 pub loop-block-init : goal.loop-block-init
@@ -48,4 +50,6 @@ returns c =
       image = kept_or tt c.args.image.now c.close.new.image (c.close.new.image ≡ image_of s) ok
           (c.close.ensures.image ∙ ap (λ o. closed o l.image) fine
           ∙ begins_all s (1 + l._block) l.image (omega (arith, all, ap blocks_of_levels count)) (omega (arith, l.invariant.3, ap blocks_of_levels count)) l.invariant.4);
+      savable = made_verdict _ _ c.close.ensures.fault (λ _. savable page c.args.cells.now (none_from_verdict _ c.in_ok-check.ensures.fault) count (λ i. omega (arith, c.type_inv.cells i)));
+      law = image_law;
     }
