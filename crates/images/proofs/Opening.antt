@@ -1,5 +1,5 @@
 -- What the checks of opening say.
-use Rattle.std.proofs.Common.{◌≡◌, ℕ, zero, suc, ◌+◌, ◌-◌, ◌*◌, ◌/◌, ◌%◌, ◌<◌, ◌≤◌, ◌⊎◌, min, Bool, true, false, not, ◌&&◌, ◌||◌, eqb, List, [], ◌∷◌, ◌++◌, length, get_or, take, drop, replicate, Some, None, Option, sym, refl, ap, ◌∙◌, ap₂, inl, inr, arith}
+use Rattle.std.proofs.Common.{◌≡◌, ℕ, zero, suc, ◌+◌, ◌-◌, ◌*◌, ◌/◌, ◌%◌, ◌<◌, ◌≤◌, ◌⊎◌, min, Bool, true, false, not, ◌&&◌, ◌||◌, eqb, ltb, List, [], ◌∷◌, ◌++◌, length, get_or, take, drop, replicate, Some, None, Option, sym, refl, ap, ◌∙◌, ap₂, inl, inr, arith}
 use mir.Val.{Val}
 use denote.Array.{each}
 use denote.Builtin.{u8}
@@ -35,7 +35,7 @@ told_none g (Some f) e = let z : ◌≡◌ {A = ℕ} 0 1 = cc in absurd (omega a
 pub in_order : (kind : ℕ) (p : Numbers) → kind_fault kind p ≡ None → Ranges (order_of kind) p
 in_order kind p e =
     let o = (both_none (check (outside 1 7 kind) Kind) (order_fault (order_of kind) p) e).1 in
-    let w = or_parts _ _ (check_none (outside 2 (min (order_of kind - 1) 256) p.columns) Columns (both_none _ _ o).0) in
+    let columns = outside 2 (min (order_of kind - 1) 256) p.columns in let w = or_parts (ltb p.columns 2) (ltb (min (order_of kind - 1) 256) p.columns) (check_none columns Columns (both_none (check columns Columns) _ o).0) in
     ranges (order_of kind) p (omega (arith, ltb-false p.columns 2 w.0, ltb-false (min (order_of kind - 1) 256) p.columns w.1)) o
 
 -- it has some cells, but few

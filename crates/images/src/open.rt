@@ -1,5 +1,5 @@
 // Opening: a raw image is looked at, and only an opened one gives its page and its rows.
-ghost use Rattle.std.specs.Prelude.{◌≡◌, ℕ, ◌+◌, ◌*◌, ◌/◌, ◌%◌, ◌<◌, ◌≤◌, not, ◌||◌, length, take, IfOk, OnOk, ◌==◌, slice_index};
+ghost use Rattle.std.specs.Prelude.{◌≡◌, ℕ, ◌+◌, ◌*◌, ◌/◌, ◌%◌, ◌<◌, ◌≤◌, not, ◌||◌, length, take, IfOk, OnOk, None, ◌==◌, slice_index};
 ghost use Rattle.basics.specs.Checks.{check, ◌or_else◌, lowest, told, verdict, fault_of};
 ghost use Rattle.fields.specs.Numbered.{number_of};
 ghost use Rattle.plans.specs.Orders.{outside};
@@ -35,8 +35,10 @@ pub struct Raw {
 // An image that was looked at and is one, with the page that it shows.
 #[derive(Drop)]
 pub struct Opened {
-    bytes: Bytes,
+    image: Raw,
     page: Page<KindField>,
+    pub ghost opens: { open_fault (bytes_at image.bytes) image.size ≡ None },
+    pub ghost shows: { Shows (bytes_at image.bytes) page },
 }
 
 impl Raw {
@@ -54,16 +56,13 @@ impl Raw {
     // Looks at the image, and opens it.
     pub fn open(self) -> Result<Opened, ImageFault>
         ensures fault { fault_of result ≡ open_fault (bytes_at self.bytes) self.size }
-        ensures bytes { IfOk result (λ opened. opened.bytes ≡ self.bytes) }
+        ensures kept { IfOk result (λ opened. opened.image ≡ self) }
         ensures page { IfOk result (λ opened. Shows (bytes_at self.bytes) opened.page) }
-        ensures image { IfOk result (λ _. take self.size self.bytes ≡ image_of (stored_in (bytes_at self.bytes))) }
-        ensures savable { IfOk result (λ _. Savable (stored_in (bytes_at self.bytes))) }
+        ensures image { OnOk result (take self.size self.bytes ≡ image_of (stored_in (bytes_at self.bytes))) }
+        ensures savable { OnOk result (Savable (stored_in (bytes_at self.bytes))) }
     {
         let page = self.check()?;
-        Ok(Opened {
-            bytes: self.bytes,
-            page,
-        })
+        Ok(Opened { image: self, page })
     }
 
     // A number of bytes that no image has.
@@ -185,6 +184,25 @@ impl Raw {
         self.check_filler(cells)?;
         Ok(page)
     }
+
+    // Reading c: a level block holds 254 of them.
+    fn reading(&self, c: usize) -> u16
+        requires { c < 8192 }
+        ensures { result ≡ reading_at (bytes_at self.now.bytes) c }
+    {
+        word(&self.bytes, 512 * (1 + c / 254) + 2 * (c % 254))
+    }
+
+    // Readings of an image that opens, from reading `first` on.
+    fn fill(&self, first: usize, cells: &mut [u16])
+        requires opens { open_fault (bytes_at self.now.bytes) self.now.size ≡ None }
+        requires inside { first + length cells.old ≤ 8192 }
+        ensures { cells.new ≡ tabled (length cells.old) (λ i. reading_at (bytes_at self.now.bytes) (first + i)) }
+    {
+        for (i, cell) in cells.iter_mut().enumerate() {
+            *cell = self.reading(first + i);
+        }
+    }
 }
 
 // As many of the bytes as an image can have, and zeros after them.
@@ -221,28 +239,10 @@ impl Opened {
         self.page
     }
 
-    // Reading c: a level block holds 254 of them.
-    fn reading(&self, c: usize) -> u16
-        requires { c < 8192 }
-        ensures { result ≡ reading_at (bytes_at self.now.bytes) c }
-    {
-        word(&self.bytes, 512 * (1 + c / 254) + 2 * (c % 254))
-    }
-
-    // Readings from reading `first` on.
-    fn fill(&self, first: usize, cells: &mut [u16])
-        requires { first + length cells.old ≤ 8192 }
-        ensures { cells.new ≡ tabled (length cells.old) (λ i. reading_at (bytes_at self.now.bytes) (first + i)) }
-    {
-        for (i, cell) in cells.iter_mut().enumerate() {
-            *cell = self.reading(first + i);
-        }
-    }
-
     // Fills n cells with the readings of a row.
     pub fn row(&self, row: u16, cells: &mut [u16]) -> Result<(), PageFault>
         ensures fault { result ≡ verdict (row_fault (of_kind (number_of self.now.page.field) self.now.page.plan.numbers) (length cells.old) row) }
-        ensures cells { OrKept result cells.old cells.new (cells.new ≡ tabled self.now.page.plan.numbers.columns (λ i. reading_at (bytes_at self.now.bytes) (row * self.now.page.plan.numbers.columns + i))) }
+        ensures cells { OrKept result cells.old cells.new (cells.new ≡ tabled self.now.page.plan.numbers.columns (λ i. reading_at (bytes_at self.now.image.bytes) (row * self.now.page.plan.numbers.columns + i))) }
     {
         self.page.check()?;
         let numbers = self.page.numbers();
@@ -250,18 +250,19 @@ impl Opened {
         if row >= numbers.rows {
             return Err(PageFault::Place(row, 0));
         }
-        self.fill(row as usize * numbers.columns as usize, cells);
+        self.image
+            .fill(row as usize * numbers.columns as usize, cells);
         Ok(())
     }
 
     // Fills as many cells as the page has with all readings.
     pub fn cells(&self, cells: &mut [u16]) -> Result<(), PageFault>
         ensures fault { result ≡ verdict (cells_fault (of_kind (number_of self.now.page.field) self.now.page.plan.numbers) (length cells.old)) }
-        ensures cells { OrKept result cells.old cells.new (cells.new ≡ tabled (cell_count self.now.page.plan.numbers) (reading_at (bytes_at self.now.bytes))) }
+        ensures cells { OrKept result cells.old cells.new (cells.new ≡ tabled (cell_count self.now.page.plan.numbers) (reading_at (bytes_at self.now.image.bytes))) }
     {
         self.page.check()?;
         check_cells(cells, self.page.numbers().cell_count())?;
-        self.fill(0, cells);
+        self.image.fill(0, cells);
         Ok(())
     }
 }

@@ -128,7 +128,7 @@ impl Begun {
 pub fn save(page: &Page<KindField>, cells: &[u16], image: &mut [u8]) -> Result<(), SaveFault>
     ensures fault { result ≡ verdict (save_fault (of_kind (number_of page.now.field) page.now.plan.numbers) (length cells.now) (length image.old)) }
     ensures image { OrKept result image.old image.new (image.new ≡ image_of (stored (number_of page.now.field) page.now.plan cells.now)) }
-    ensures savable { IfOk result (λ _. Savable (stored (number_of page.now.field) page.now.plan cells.now)) }
+    ensures savable { OnOk result (Savable (stored (number_of page.now.field) page.now.plan cells.now)) }
     ensures law { ImageLaw }
 {
     page.check()?;
