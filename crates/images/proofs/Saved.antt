@@ -31,6 +31,7 @@ columns_fit p ms few e i = elim (cases_lt i (length ms)) [
   | inr l ↦ omega (arith, get_or_past ms i 0 l)
 ]
 
+-- numbers, and what is stored, by their parts
 numbers_same : (p t : Numbers) → p.columns ≡ t.columns → p.checks ≡ t.checks → p.rows ≡ t.rows → p.heights ≡ t.heights → p.drift ≡ t.drift → p ≡ t
 numbers_same p t a b c d e =
     ap₂ (λ x y. record p { columns = x; checks = y }) a b ∙ ap₂ (λ x y. record p { columns = t.columns; checks = t.checks; rows = x; heights = y }) c d ∙ ap (λ x. record t { drift = x }) e
@@ -62,7 +63,9 @@ image_small s k i = let b = i / 512 in let j = i % 512 in elim (cases_lt j 508) 
   | inr l ↦ omega (arith, sealed_high b (plain_at s b) j l, entry_small (four_bytes (check_value b (plain_at s b))) (search (rules, mod_below)) (j - 508))
 ]
 
+-- bytes that are, as far as it goes, its image
 module _ (s : Stored) (k : Savable s) (at : ℕ → ℕ) (same : (i : ℕ) → i < image_size s.numbers → at i ≡ image_at s i) where
+  -- the bytes of block 0, and of a level block
   head : (j : ℕ) → j < 508 → at j ≡ head_at s.kind s.numbers s.marking j
   head j h = same j (omega arith) ∙ image_head s j (omega arith) ∙ sealed_low 0 (head_at s.kind s.numbers s.marking) j h
 
@@ -80,6 +83,7 @@ module _ (s : Stored) (k : Savable s) (at : ℕ → ℕ) (same : (i : ℕ) → i
       let z : 512 * (1 + i / 508) + i % 508 ≡ 512 * (i / 508 + 1) + i % 508 = omega arith in let y : 508 * (i / 508) + i % 508 ≡ i = omega arith in
       ap at z ∙ levels (i / 508) (i % 508) (omega arith) (omega arith) ∙ ap (words_at s.cells) y
 
+  -- what they hold
   numbers_is : numbers_in at ≡ s.numbers
   numbers_is =
       let p = s.numbers in let r = in_order s.kind p k.ordered in let q = order_of s.kind in
@@ -102,6 +106,7 @@ module _ (s : Stored) (k : Savable s) (at : ℕ → ℕ) (same : (i : ℕ) → i
   pub stored_is : stored_in at ≡ s
   stored_is = stored_same (stored_in at) s (start 5 (omega arith)) numbers_is marking_is cells_is
 
+  -- a place of filler holds 0
   filled : (i : ℕ) → i < image_size s.numbers → (i < 512) ⊎ (512 ≤ i) → filler_here at i ≡ true → at i ≡ 0
   filled i l (inl low) h = elim (or_cases (eqb i 15) (leb (16 + 2 * at 14) i && ltb i 508) (sym (cond-true _ _ _ (lt-ltb i 512 low)) ∙ h)) [
     | inl e ↦ ap at (eqb-true i 15 e) ∙ start 15 (omega arith)

@@ -14,6 +14,7 @@ use Rattle.images.proofs.Opening.{Passed}
 use Rattle.images.proofs.Sealing.{holds_sealed}
 
 module _ (at : ℕ → ℕ) (size : ℕ) (small : (i : ℕ) → at i < 256) (k : Passed at size) where
+  -- how many marked columns and cells they hold
   count : length (marking_in at) ≡ at 14
   count = length-map-range_with_len (λ i. word_at at (16 + 2 * i)) 0 (at 14)
 
@@ -40,6 +41,7 @@ module _ (at : ℕ → ℕ) (size : ℕ) (small : (i : ℕ) → at i < 256) (k :
       let a15 : at 15 ≡ 0 = head_filler 15 (omega arith) refl in let n = count in
       cc
 
+  -- what comes after those, and the bytes of a level block
   marks : (i : ℕ) → i < 492 → at (16 + i) ≡ words_at (marking_in at) i
   marks i h = elim (cases_lt i (2 * at 14)) [
     | inl l ↦ sym (words_of (λ i. at (16 + i)) (λ i. small (16 + i)) (marking_in at)
@@ -56,6 +58,7 @@ module _ (at : ℕ → ℕ) (size : ℕ) (small : (i : ℕ) → at i < 256) (k :
     | inr m ↦ level_filler b j l h m ∙ sym (words_past (stored_in at).cells (508 * b + j) (omega (arith, cells)))
   ]
 
+  -- each block, before its check
   head : (j : ℕ) → j < 508 → at j ≡ head_at (at 5) (numbers_in at) (marking_in at) j
   head j h = elim (cases_lt j 16) [
     | inl l ↦ sym (tabled_at 16 at j l) ∙ ap (λ xs. get_or xs j 0) start ∙ sym (head_low (at 5) (numbers_in at) (marking_in at) j l)
@@ -66,6 +69,7 @@ module _ (at : ℕ → ℕ) (size : ℕ) (small : (i : ℕ) → at i < 256) (k :
   plain zero l j h = let z : 512 * 0 + j ≡ j = omega arith in ap at z ∙ head j h
   plain (suc b) l j h = ap (λ c. at (512 * c + j)) (sym (add-one b)) ∙ levels b j (omega (arith, k.size_is)) h
 
+  -- and with it
   pub image_bytes : (i : ℕ) → i < size → at i ≡ image_at (stored_in at) i
   image_bytes i h =
       let b = i / 512 in let j = i % 512 in let z : 512 * b + j ≡ i = omega arith in let l : b < size / 512 = omega (arith, k.size_is) in
