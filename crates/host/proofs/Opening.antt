@@ -1,0 +1,98 @@
+-- Bytes that open, and bytes that do not.
+use Rattle.std.proofs.Common.{◌≡◌, ℕ, ◌/◌, ◌%◌, ◌+◌, ◌<◌, ◌≤◌, not, ◌||◌, eqb, ltb, List, length, get_or, Some, None, Err, Option, sym, ap, ◌∙◌, inl, inr}
+use Rattle.std.proofs.Math.Bool.{or-true}
+use Rattle.std.proofs.Math.Path.{fun_ext}
+use Rattle.std.proofs.lemmas.Bool.{cases_lt, lt-ltb, ltb-false, or_parts, eqb-true, eq-eqb, not-false}
+use Rattle.basics.specs.Checks.{check, ◌or_else◌, lowest, told, verdict}
+use Rattle.basics.proofs.Checking.{both_none, check_none, check_false, first_passes, others_pass, some_first, some_from_verdict}
+use Rattle.fields.specs.Kinds.{order_of}
+use Rattle.fields.specs.Seven.{order_is}
+use Rattle.plans.specs.Orders.{order_fault, outside}
+use Rattle.plans.specs.Marks.{marking_fault}
+use Rattle.plans.specs.declared.fault.OrderFault.{OrderFault}
+use Rattle.plans.specs.declared.fault.OrderFault.TheVariants.{Kind}
+use Rattle.rules.specs.Pages.{State}
+use Rattle.rules.specs.Calls.{numbers_fault, handed}
+use Rattle.rules.specs.Views.{kind_fault, of_kind}
+use Rattle.rules.specs.declared.fault.Buffer.TheVariants.{Cells}
+use Rattle.rules.specs.declared.fault.PageFault.TheVariants as page
+use Rattle.images.specs.Format.{blocks_of_levels, cell_count, image_size}
+use Rattle.images.specs.Opening.{bytes_at, numbers_in, marking_in, seal_fault, word_fault, filler_fault, open_fault}
+use Rattle.images.specs.Opened.{cells_fault}
+use Rattle.images.specs.Saving.{save_fault}
+use Rattle.images.specs.declared.fault.ImageFault.TheVariants.{Length, Header, Marking, Blocks}
+use Rattle.images.specs.declared.fault.SaveFault.TheVariants.{Page}
+use Rattle.images.proofs.Opening.{told_none, few_cells}
+use Rattle.images.proofs.Saving.{image_fine}
+
+-- a check that passes refuses nothing
+pub never : {F : Type 0} (o : Option F) (f : F) → o ≡ None → Err f ≡ verdict o → ⊥
+never o f e w = let z = some_from_verdict o f w in cc
+
+-- where there are too many bytes, none is looked at
+too_many : (at : ℕ → ℕ) (size : ℕ) → 17408 < size → open_fault at size ≡ Some Length
+too_many at size h =
+    let a = not (eqb (size % 512) 0) in let b = ltb size 1024 in
+    some_first (check (a || outside 1024 17408 size) Length) _ Length
+    (ap (λ t. check (a || (b || t)) Length) (lt-ltb 17408 size h) ∙ ap (λ t. check (a || t) Length) (or-true b) ∙ ap (λ t. check t Length) (or-true a))
+
+-- a copy of as many bytes as an image can have opens as they do
+pub raw_opens : (xs ys : List ℕ) (size : ℕ) → size ≡ length xs → (length xs ≤ 17408 → (i : ℕ) → get_or ys i 0 ≡ get_or xs i 0)
+    → open_fault (bytes_at ys) size ≡ open_fault (bytes_at xs) (length xs)
+raw_opens xs ys size e h = ap (open_fault (bytes_at ys)) e ∙ elim (cases_lt 17408 (length xs)) [
+  | inl l ↦ too_many (bytes_at ys) (length xs) l ∙ sym (too_many (bytes_at xs) (length xs) l)
+  | inr l ↦ let same : bytes_at ys ≡ bytes_at xs = fun_ext (h l) in ap (λ (at : ℕ → ℕ). open_fault at (length xs)) same
+]
+
+-- checks of which none fails
+passed : {F : Type 0} (a b c d e f g : Option F) → (a or_else b or_else c or_else d or_else e or_else f or_else g) ≡ None → (a ≡ None) × (d ≡ None) × (f ≡ None)
+passed a b c d e f g z =
+    let y = both_none a _ z in let x = both_none d _ (both_none c _ (both_none b _ y.1).1).1 in (y.0, x.0, (both_none f g (both_none e _ x.1).1).0)
+
+-- bytes that open
+module _ (at : ℕ → ℕ) (size : ℕ) (o : open_fault at size ≡ None) where
+  parts : (check (not (eqb (size % 512) 0) || outside 1024 17408 size) Length ≡ None) × (told Header (kind_fault (at 5) (numbers_in at)) ≡ None)
+      × (check (not (eqb size (image_size (numbers_in at)))) (Blocks (1 + blocks_of_levels (cell_count (numbers_in at)))) ≡ None)
+  parts =
+      passed (check (not (eqb (size % 512) 0) || outside 1024 17408 size) Length) (lowest 0 (size / 512) (seal_fault at)) (lowest 0 5 (word_fault at))
+      (told Header (kind_fault (at 5) (numbers_in at))) (told Marking (marking_fault (numbers_in at) (marking_in at)))
+      (check (not (eqb size (image_size (numbers_in at)))) (Blocks (1 + blocks_of_levels (cell_count (numbers_in at))))) (lowest 0 size (filler_fault at)) o
+
+  -- are no more than an image can have
+  pub few_bytes : size ≤ 17408
+  few_bytes = ltb-false 17408 size (or_parts _ _ (or_parts _ _ (check_none _ Length parts.0)).1).1
+
+  -- and as many as the page's image has
+  pub whole : size ≡ image_size (numbers_in at)
+  whole = eqb-true _ _ (not-false _ (check_none _ _ parts.2))
+
+  -- their page is in order
+  ordered : kind_fault (at 5) (numbers_in at) ≡ None
+  ordered = told_none Header _ parts.1
+
+  pub few_readings : cell_count (numbers_in at) ≤ 8192
+  few_readings = few_cells (at 5) (numbers_in at) ordered
+
+  pub in_order : numbers_fault (of_kind (at 5) (numbers_in at)) ≡ None
+  unfolding numbers_fault
+  in_order =
+      let k = at 5 in let both = both_none (check (outside 1 7 k) Kind) (order_fault (order_of k) (numbers_in at)) ordered in
+      let inside = or_parts _ _ (check_none _ Kind both.0) in
+      ap (λ (x : Option OrderFault). elim x [ Some f ↦ Some (page.Order f) | None ↦ None ])
+      (ap (λ (q : ℕ). order_fault q (numbers_in at)) (sym (order_is k (ltb-false k 1 inside.0, ltb-false 7 k inside.1))) ∙ both.1)
+
+  -- so what is done with it is not refused
+  pub gives_cells : (count : ℕ) → count ≡ cell_count (numbers_in at) → cells_fault (of_kind (at 5) (numbers_in at)) count ≡ None
+  gives_cells count e = first_passes (numbers_fault (of_kind (at 5) (numbers_in at))) _ in_order ∙ check_false _ _ (ap not (eq-eqb _ _ e))
+
+  pub takes_cells : (s : State) → length s.cells ≡ cell_count (numbers_in at) → handed (of_kind (at 5) (numbers_in at)) s ≡ None
+  takes_cells s e = gives_cells (length s.cells) e
+
+  pub saves : (count : ℕ) → count ≡ cell_count (numbers_in at) → save_fault (of_kind (at 5) (numbers_in at)) count size ≡ None
+  saves count e =
+      others_pass (told Page (numbers_fault (of_kind (at 5) (numbers_in at)))) (check (not (eqb count (cell_count (numbers_in at)))) (Page (page.Length Cells))) _
+      (ap (told Page) in_order) (check_false _ _ (ap not (eq-eqb _ _ e))) ∙ image_fine (cell_count (numbers_in at)) size whole
+
+-- and a copy of them is what they are
+pub raw_bytes : (xs ys : List ℕ) → open_fault (bytes_at xs) (length xs) ≡ None → (length xs ≤ 17408 → (i : ℕ) → get_or ys i 0 ≡ get_or xs i 0) → bytes_at ys ≡ bytes_at xs
+raw_bytes xs ys o h = fun_ext (h (few_bytes (bytes_at xs) (length xs) o))

@@ -1,0 +1,27 @@
+use Rattle.std.proofs.Common.{◌≡◌, ℕ, ◌≤◌, List, length, Some, None, Err, Option, refl, ap, ◌∙◌, subst, sym, rules}
+use Rattle.std.proofs.lemmas.Result.{err_from_is_err_and}
+use Rattle.basics.specs.Checks.{told}
+use Rattle.images.specs.Format.{cell_count}
+use Rattle.images.specs.Opening.{bytes_at}
+use Rattle.images.specs.declared.fault.ImageFault.{ImageFault}
+use Rattle.host.specs.declared.fault.HostFault.{HostFault}
+use Rattle.host.specs.declared.fault.HostFault.TheVariants.{Image}
+use Rattle.host.specs.Answers.{no_image, answer_of, Scrubbed, unopened}
+use Rattle.host.proofs.Opening.{few_readings}
+use Rattle.host.proofs.scrub.Goals as goal
+
+-- what is refused in opening
+stopped : (xs : List ℕ) (o : Option ImageFault) (f : HostFault) → no_image xs ≡ o → Some f ≡ told Image o → Scrubbed xs (answer_of (Err f)) xs
+stopped xs None f is e = absurd cc
+stopped xs (Some g) f is e = let z : f ≡ Image g = cc in unopened g is (ap (λ h. answer_of (Err h)) z) refl
+
+pub returns-in_err-opened : goal.returns-in_err-opened
+returns-in_err-opened c =
+    let xs = c.args.image.now in let x = err_from_is_err_and c.from_residual.result c.from_residual.ensures.1 in
+    subst (λ w. Scrubbed xs (answer_of w) xs) (sym (x.1 ∙ ap Err x.2)) (stopped xs (no_image xs) _ refl c.in_err-opened.ensures.fault)
+
+pub slice_bounds-room-end : goal.slice_bounds-room-end
+slice_bounds-room-end c =
+    let o = c.in_ok-opened.ensures.opened in
+    let e = c.cell_count-count.ensures ∙ ap cell_count (c.numbers.ensures ∙ ap (λ p. p.plan.numbers) c.page.ensures ∙ o.page.numbers) in
+    let h : c.cell_count-count.result ≤ 8192 = subst (λ (n : ℕ). n ≤ 8192) (sym e) (few_readings (bytes_at c.args.image.now) (length c.args.image.now) o.image) in search rules

@@ -1,0 +1,71 @@
+// The two functions that a host program, in C or in Rust, calls on the bytes of an image.
+#![tactic(auto)]
+
+ghost use Rattle.std.specs.Prelude.{◌≡◌, length, IfOk};
+ghost use Rattle.basics.specs.Checks.{fault_of, told};
+ghost use Rattle.images.specs.Format.{cell_count};
+ghost use Rattle.host.specs.Answers.{no_image, check_code, answer_of, Scrubbed};
+ghost use Rattle.host.specs.Opens.{Opens};
+ghost use Rattle.host.specs.declared.fault.HostFault.TheVariants.{Image};
+
+mod fault;
+
+use crate::fault::{HostFault, answer};
+use images::open::{Opened, Raw};
+use images::save::save;
+
+// Says whether the bytes are an image: 0, or why they are none.
+#[unsafe(no_mangle)]
+pub extern "C" fn almp_check(image: &[u8]) -> u64
+    ensures { result ≡ check_code (no_image image.now) }
+{
+    answer(check(image))
+}
+
+// Scrubs the page whose image the bytes are: the levels risen, and the bytes become the image of the scrubbed page. Where it is
+// refused, it answers why, and the bytes are as before.
+#[unsafe(no_mangle)]
+pub extern "C" fn almp_scrub(image: &mut [u8]) -> u64
+    ensures { Scrubbed image.old result image.new }
+{
+    answer(scrub(image))
+}
+
+// Opens the image.
+fn open_image(image: &[u8]) -> Result<Opened, HostFault>
+    ensures fault { fault_of result ≡ told Image (no_image image.now) }
+    ensures opened { IfOk result (Opens image.now) }
+{
+    Ok(Raw::new(image).open()?)
+}
+
+// Nothing but whether the bytes are an image.
+fn check(image: &[u8]) -> Result<u32, HostFault>
+    ensures { answer_of result ≡ check_code (no_image image.now) }
+{
+    open_image(image)?;
+    Ok(0)
+}
+
+// The levels risen, where the image is scrubbed.
+fn scrub(image: &mut [u8]) -> Result<u32, HostFault>
+    ensures { Scrubbed image.old (answer_of result) image.new }
+{
+    let opened = open_image(image)?;
+    let mut room = [0; 8192];
+    let count = opened.page().numbers().cell_count();
+    scrub_in(&opened, &mut room[0..count], image)
+}
+
+// The same, with room for the cells.
+fn scrub_in(opened: &Opened, cells: &mut [u16], image: &mut [u8]) -> Result<u32, HostFault>
+    requires opened { Opens image.old opened.now }
+    requires room { length cells.old ≡ cell_count opened.now.page.plan.numbers }
+    ensures { Scrubbed image.old (answer_of result) image.new }
+{
+    opened.cells(cells)?;
+    let page = opened.page();
+    let (_, risen) = page.scrub(cells)?;
+    save(page, cells, image)?;
+    Ok(risen)
+}
