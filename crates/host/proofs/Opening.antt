@@ -5,9 +5,10 @@ use Rattle.std.proofs.Math.Path.{fun_ext}
 use Rattle.std.proofs.lemmas.Bool.{cases_lt, lt-ltb, ltb-false, or_parts, eqb-true, eq-eqb, not-false}
 use Rattle.basics.specs.Checks.{check, ◌or_else◌, lowest, told, verdict}
 use Rattle.basics.proofs.Checking.{both_none, check_none, check_false, first_passes, others_pass, some_first, some_from_verdict}
-use Rattle.fields.specs.Kinds.{order_of}
-use Rattle.fields.specs.Seven.{order_is}
-use Rattle.plans.specs.Orders.{order_fault, outside}
+use Rattle.fields.specs.Kinds.{order_of, ops_of}
+use Rattle.fields.specs.Seven.{laws, order_is}
+use Rattle.plans.specs.Orders.{order_fault, outside, Ranges}
+use Rattle.plans.proofs.Ranged.{ranges}
 use Rattle.plans.specs.Marks.{marking_fault}
 use Rattle.plans.specs.declared.fault.OrderFault.{OrderFault}
 use Rattle.plans.specs.declared.fault.OrderFault.TheVariants.{Kind}
@@ -73,13 +74,21 @@ module _ (at : ℕ → ℕ) (size : ℕ) (o : open_fault at size ≡ None) where
   pub few_readings : cell_count (numbers_in at) ≤ 8192
   few_readings = few_cells (at 5) (numbers_in at) ordered
 
-  pub in_order : numbers_fault (of_kind (at 5) (numbers_in at)) ≡ None
+  checked_order : (check (outside 1 7 (at 5)) Kind ≡ None) × (order_fault (order_of (at 5)) (numbers_in at) ≡ None)
+  checked_order = both_none (check (outside 1 7 (at 5)) Kind) (order_fault (order_of (at 5)) (numbers_in at)) ordered
+
+  pub kind_in : (1 ≤ at 5) × (at 5 ≤ 7)
+  kind_in = let inside = or_parts _ _ (check_none _ Kind checked_order.0) in (ltb-false (at 5) 1 inside.0, ltb-false 7 (at 5) inside.1)
+
+  numbered : order_fault (ops_of (at 5)).order (numbers_in at) ≡ None
+  numbered = ap (λ (q : ℕ). order_fault q (numbers_in at)) (sym (order_is (at 5) kind_in)) ∙ checked_order.1
+
+  pub in_range : Ranges (ops_of (at 5)).order (numbers_in at)
+  in_range = ranges (ops_of (at 5)).order (numbers_in at) (laws (at 5) kind_in).low numbered
+
+  in_order : numbers_fault (of_kind (at 5) (numbers_in at)) ≡ None
   unfolding numbers_fault
-  in_order =
-      let k = at 5 in let both = both_none (check (outside 1 7 k) Kind) (order_fault (order_of k) (numbers_in at)) ordered in
-      let inside = or_parts _ _ (check_none _ Kind both.0) in
-      ap (λ (x : Option OrderFault). elim x [ Some f ↦ Some (page.Order f) | None ↦ None ])
-      (ap (λ (q : ℕ). order_fault q (numbers_in at)) (sym (order_is k (ltb-false k 1 inside.0, ltb-false 7 k inside.1))) ∙ both.1)
+  in_order = ap (λ (x : Option OrderFault). elim x [ Some f ↦ Some (page.Order f) | None ↦ None ]) numbered
 
   -- so what is done with it is not refused
   pub gives_cells : (count : ℕ) → count ≡ cell_count (numbers_in at) → cells_fault (of_kind (at 5) (numbers_in at)) count ≡ None

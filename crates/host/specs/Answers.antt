@@ -65,3 +65,7 @@ module _ (xs : List ℕ) where
     scrubbed : (levels : List ℕ) → no_image ≡ None → readings_fault page_in state_in ≡ None → Found page_in state_in levels
         → w ≡ risen page_in held.marking held.cells levels → w < 4294967296
         → zs ≡ image_of (with_cells levels) → Scrubbed w zs
+
+  -- all that is a scrub of xs is one answer and one list of bytes
+  abbrev pub OneScrub : Type 0
+  OneScrub = (v w : ℕ) (ys zs : List ℕ) → Scrubbed v ys → Scrubbed w zs → (v ≡ w) × (ys ≡ zs)

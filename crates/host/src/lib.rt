@@ -4,13 +4,14 @@
 ghost use Rattle.std.specs.Prelude.{◌≡◌, length, IfOk};
 ghost use Rattle.basics.specs.Checks.{fault_of, told};
 ghost use Rattle.images.specs.Format.{cell_count};
-ghost use Rattle.host.specs.Answers.{no_image, check_code, answer_of, Scrubbed};
+ghost use Rattle.host.specs.Answers.{no_image, check_code, answer_of, Scrubbed, OneScrub};
 ghost use Rattle.host.specs.Opens.{Opens};
 ghost use Rattle.host.specs.declared.fault.HostFault.TheVariants.{Image};
 
 mod fault;
 
 use crate::fault::{HostFault, answer};
+use fields::rules;
 use images::open::{Opened, Raw};
 use images::save::save;
 
@@ -26,7 +27,8 @@ pub extern "C" fn almp_check(image: &[u8]) -> u64
 // refused, it answers why, and the bytes are as before.
 #[unsafe(no_mangle)]
 pub extern "C" fn almp_scrub(image: &mut [u8]) -> u64
-    ensures { Scrubbed image.old result image.new }
+    ensures scrubbed { Scrubbed image.old result image.new }
+    ensures only { OneScrub image.old }
 {
     answer(scrub(image))
 }
@@ -49,12 +51,22 @@ fn check(image: &[u8]) -> Result<u32, HostFault>
 
 // The levels risen, where the image is scrubbed.
 fn scrub(image: &mut [u8]) -> Result<u32, HostFault>
-    ensures { Scrubbed image.old (answer_of result) image.new }
+    ensures scrubbed { Scrubbed image.old (answer_of result) image.new }
+    ensures only { OneScrub image.old }
 {
     let opened = open_image(image)?;
+    one_scrub(&opened, image);
     let mut room = [0; 8192];
     let count = opened.page().numbers().cell_count();
     scrub_in(&opened, &mut room[0..count], image)
+}
+
+// That nothing else is a scrub of these bytes, by the rules of the field's inverses and points.
+fn one_scrub(opened: &Opened, image: &[u8])
+    requires { Opens image.now opened.now }
+    ensures { OneScrub image.now }
+{
+    rules(opened.page().field());
 }
 
 // The same, with room for the cells.

@@ -6,8 +6,9 @@ use Rattle.images.specs.Opening.{bytes_at}
 use Rattle.images.specs.declared.fault.ImageFault.{ImageFault}
 use Rattle.host.specs.declared.fault.HostFault.{HostFault}
 use Rattle.host.specs.declared.fault.HostFault.TheVariants.{Image}
-use Rattle.host.specs.Answers.{no_image, answer_of, Scrubbed, unopened}
+use Rattle.host.specs.Answers.{no_image, answer_of, Scrubbed, unopened, OneScrub}
 use Rattle.host.proofs.Opening.{few_readings}
+use Rattle.host.proofs.Once.{one_unopened}
 use Rattle.host.proofs.scrub.Goals as goal
 
 -- what is refused in opening
@@ -15,8 +16,15 @@ stopped : (xs : List ℕ) (o : Option ImageFault) (f : HostFault) → no_image x
 stopped xs None f is e = absurd cc
 stopped xs (Some g) f is e = let z : f ≡ Image g = cc in unopened g is (ap (λ h. answer_of (Err h)) z) refl
 
-pub returns-in_err-opened : goal.returns-in_err-opened
-returns-in_err-opened c =
+one_stopped : (xs : List ℕ) (o : Option ImageFault) (f : HostFault) → no_image xs ≡ o → Some f ≡ told Image o → OneScrub xs
+one_stopped xs None f is e = absurd cc
+one_stopped xs (Some g) f is e = one_unopened xs g is
+
+pub returns-in_err-opened-clause-only : goal.returns-in_err-opened-clause-only
+returns-in_err-opened-clause-only c = one_stopped c.args.image.now (no_image c.args.image.now) _ refl c.in_err-opened.ensures.fault
+
+pub returns-in_err-opened-clause-scrubbed : goal.returns-in_err-opened-clause-scrubbed
+returns-in_err-opened-clause-scrubbed c =
     let xs = c.args.image.now in let x = err_from_is_err_and c.from_residual.result c.from_residual.ensures.1 in
     subst (λ w. Scrubbed xs (answer_of w) xs) (sym (x.1 ∙ ap Err x.2)) (stopped xs (no_image xs) _ refl c.in_err-opened.ensures.fault)
 
