@@ -1,3 +1,4 @@
 pub mod Opening
 pub mod Scrubbing
 pub mod Once
+pub mod Numbers

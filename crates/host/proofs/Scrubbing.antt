@@ -1,9 +1,10 @@
 -- What a scrub of the page that bytes show makes of them.
-use Rattle.std.proofs.Common.{◌≡◌, ℕ, ◌<◌, List, length, Some, None, Ok, Err, Option, Result, refl, ap, ◌∙◌, subst, ap₂}
+use Rattle.std.proofs.Common.{◌≡◌, ℕ, List, length, Some, None, Ok, Err, Option, Result, refl, ap, ◌∙◌, subst, ap₂}
 use Rattle.std.proofs.lemmas.List.FromFn.{length-map-range_with_len}
 use Rattle.basics.proofs.Checking.{first_passes}
 use Rattle.plans.specs.declared.numbers.Numbers.{Numbers}
 use Rattle.plans.specs.declared.plan.Plan.{Plan}
+use Rattle.plans.specs.declared.fault.Refusal.{Refusal}
 use Rattle.rules.specs.Pages.{Setup, State}
 use Rattle.rules.specs.Calls.{Event, refused, counted, event, scrub, brought, handed, fault, unfound, found, Follows}
 use Rattle.rules.specs.Views.{marking, state, of_kind, readings_fault, Scrubs}
@@ -13,7 +14,7 @@ use Rattle.images.specs.Format.{cell_count, image_of}
 use Rattle.images.specs.Opening.{bytes_at, reading_at}
 use Rattle.images.specs.Opened.{cells_fault}
 use Rattle.images.specs.Saving.{save_fault, stored}
-use Rattle.host.specs.Answers.{code_of, no_image, held, page_in, state_in, with_cells, Scrubbed, unread, unreached, scrubbed}
+use Rattle.host.specs.Answers.{no_image, held, page_in, state_in, with_cells, Scrubbed, unread, unreached, scrubbed}
 use Rattle.host.proofs.Opening.{gives_cells, takes_cells, saves}
 
 -- a page of which the bytes show the kind, the numbers and the marking
@@ -58,28 +59,28 @@ module _ (xs : List ℕ) (o : no_image xs ≡ None) where
     abbrev refusal : Event
     refusal = event s scrub (refused (page_refusal f)) (brought scrub) (record { marking = s.marking; cells = zs })
 
-    coded : (g : PageFault) → refused (page_refusal f) ≡ refused (page_refusal g) → code_of (page_refusal f) ≡ code_of (page_refusal g)
-    coded g w = let z : page_refusal f ≡ page_refusal g = cc in ap code_of z
+    told_so : (g : PageFault) → refused (page_refusal f) ≡ refused (page_refusal g) → ◌≡◌ {A = Result ℕ Refusal} (Err (page_refusal f)) (Err (page_refusal g))
+    told_so g w = cc
 
-    refuses : (r : Option PageFault) → readings_fault p s ≡ r → Follows p refusal r → Scrubbed xs (code_of (page_refusal f)) ws
-    refuses (Some g) is h = unread g o is (coded g h.why) same
-    refuses None is (unfound g u h) = unreached g o is u (coded g h.why) same
+    refuses : (r : Option PageFault) → readings_fault p s ≡ r → Follows p refusal r → Scrubbed xs (Err (page_refusal f)) ws
+    refuses (Some g) is h = unread g o is (told_so g h.why) same
+    refuses None is (unfound g u h) = unreached g o is u (told_so g h.why) same
     refuses None is (found ys u h) = let z = h.answers in absurd cc
 
-    pub scrub_refuses : Scrubs p s (Err f) zs → Scrubbed xs (code_of (page_refusal f)) ws
+    pub scrub_refuses : Scrubs p s (Err f) zs → Scrubbed xs (Err (page_refusal f)) ws
     scrub_refuses step = refuses (readings_fault p s) refl (judged refusal step)
 
   -- a scrub that is not, and a save of what it leaves
-  module _ (d k : ℕ) (zs ws : List ℕ) (small : k < 4294967296) (saved : ws ≡ image_of (with_cells xs zs)) where
+  module _ (d k : ℕ) (zs ws : List ℕ) (saved : ws ≡ image_of (with_cells xs zs)) where
     abbrev counting : Event
     counting = event s scrub (counted d k) (brought scrub) (record { marking = s.marking; cells = zs })
 
-    leaves : (r : Option PageFault) → readings_fault p s ≡ r → Follows p counting r → Scrubbed xs k ws
+    leaves : (r : Option PageFault) → readings_fault p s ≡ r → Follows p counting r → Scrubbed xs (Ok k) ws
     leaves (Some g) is h = let z = h.why in absurd cc
     leaves None is (unfound g u h) = let z = h.why in absurd cc
     leaves None is (found ys u h) =
         let z = h.answers in let y : zs ≡ ys = ap (λ (t : State). t.cells) h.after_is in
-        scrubbed ys o is u (cc) small (saved ∙ ap (λ cs. image_of (with_cells xs cs)) y)
+        scrubbed ys o is u (cc) (saved ∙ ap (λ cs. image_of (with_cells xs cs)) y)
 
-    pub scrub_leaves : Scrubs p s (Ok (d, k)) zs → Scrubbed xs k ws
+    pub scrub_leaves : Scrubs p s (Ok (d, k)) zs → Scrubbed xs (Ok k) ws
     scrub_leaves step = leaves (readings_fault p s) refl (judged counting step)

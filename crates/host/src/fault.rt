@@ -1,6 +1,6 @@
 // Why a host's call is refused, and the one number that says it.
 ghost use Rattle.std.specs.Prelude.{◌≡◌};
-ghost use Rattle.host.specs.Answers.{code_of, host_refusal, answer_of};
+ghost use Rattle.host.specs.Answers.{code_of, refusal_in, host_refusal, outcome_of, Says};
 ghost use Rattle.host.specs.declared.fault.HostFault.TheVariants.{Image, Page, Save};
 
 use images::fault::{ImageFault, SaveFault};
@@ -56,7 +56,8 @@ impl From<HostFault> for Refusal {
 
 // A refusal as one number.
 fn code(refusal: Refusal) -> u64
-    ensures { result ≡ code_of refusal }
+    ensures code { result ≡ code_of refusal }
+    ensures back { refusal_in result ≡ refusal }
 {
     (refusal.number as u64) * 0x1_0000_0000
         + (refusal.first as u64) * 0x1_0000
@@ -65,7 +66,7 @@ fn code(refusal: Refusal) -> u64
 
 // An outcome as one number.
 pub(crate) fn answer(outcome: Result<u32, HostFault>) -> u64
-    ensures { result ≡ answer_of outcome }
+    ensures { Says result (outcome_of outcome) }
 {
     match outcome {
         Ok(value) => value as u64,

@@ -4,7 +4,7 @@
 ghost use Rattle.std.specs.Prelude.{◌≡◌, length, IfOk};
 ghost use Rattle.basics.specs.Checks.{fault_of, told};
 ghost use Rattle.images.specs.Format.{cell_count};
-ghost use Rattle.host.specs.Answers.{no_image, check_code, answer_of, Scrubbed, OneScrub};
+ghost use Rattle.host.specs.Answers.{no_image, checked, outcome_of, refusal_in, Comes, Says, Scrubbed, Answers, OneAnswer};
 ghost use Rattle.host.specs.Opens.{Opens};
 ghost use Rattle.host.specs.declared.fault.HostFault.TheVariants.{Image};
 
@@ -18,7 +18,7 @@ use images::save::save;
 // Says whether the bytes are an image: 0, or why they are none.
 #[unsafe(no_mangle)]
 pub extern "C" fn almp_check(image: &[u8]) -> u64
-    ensures { result ≡ check_code (no_image image.now) }
+    ensures { Says result (checked (no_image image.now)) }
 {
     answer(check(image))
 }
@@ -27,8 +27,9 @@ pub extern "C" fn almp_check(image: &[u8]) -> u64
 // refused, it answers why, and the bytes are as before.
 #[unsafe(no_mangle)]
 pub extern "C" fn almp_scrub(image: &mut [u8]) -> u64
-    ensures scrubbed { Scrubbed image.old result image.new }
-    ensures only { OneScrub image.old }
+    ensures answers { Answers image.old result image.new }
+    ensures only { OneAnswer image.old }
+    ensures numbers { Comes (refusal_in result).number }
 {
     answer(scrub(image))
 }
@@ -43,7 +44,7 @@ fn open_image(image: &[u8]) -> Result<Opened, HostFault>
 
 // Nothing but whether the bytes are an image.
 fn check(image: &[u8]) -> Result<u32, HostFault>
-    ensures { answer_of result ≡ check_code (no_image image.now) }
+    ensures { outcome_of result ≡ checked (no_image image.now) }
 {
     open_image(image)?;
     Ok(0)
@@ -51,20 +52,20 @@ fn check(image: &[u8]) -> Result<u32, HostFault>
 
 // The levels risen, where the image is scrubbed.
 fn scrub(image: &mut [u8]) -> Result<u32, HostFault>
-    ensures scrubbed { Scrubbed image.old (answer_of result) image.new }
-    ensures only { OneScrub image.old }
+    ensures scrubbed { Scrubbed image.old (outcome_of result) image.new }
+    ensures only { OneAnswer image.old }
 {
     let opened = open_image(image)?;
-    one_scrub(&opened, image);
+    one_answer(&opened, image);
     let mut room = [0; 8192];
     let count = opened.page().numbers().cell_count();
     scrub_in(&opened, &mut room[0..count], image)
 }
 
-// That nothing else is a scrub of these bytes, by the rules of the field's inverses and points.
-fn one_scrub(opened: &Opened, image: &[u8])
+// That a scrub of these bytes answers and leaves nothing else, by the rules of the field's inverses and points.
+fn one_answer(opened: &Opened, image: &[u8])
     requires { Opens image.now opened.now }
-    ensures { OneScrub image.now }
+    ensures { OneAnswer image.now }
 {
     rules(opened.page().field());
 }
@@ -73,7 +74,7 @@ fn one_scrub(opened: &Opened, image: &[u8])
 fn scrub_in(opened: &Opened, cells: &mut [u16], image: &mut [u8]) -> Result<u32, HostFault>
     requires opened { Opens image.old opened.now }
     requires room { length cells.old ≡ cell_count opened.now.page.plan.numbers }
-    ensures { Scrubbed image.old (answer_of result) image.new }
+    ensures { Scrubbed image.old (outcome_of result) image.new }
 {
     opened.cells(cells)?;
     let page = opened.page();

@@ -4,15 +4,15 @@ use Rattle.basics.specs.Checks.{told}
 use Rattle.images.specs.declared.fault.ImageFault.{ImageFault}
 use Rattle.host.specs.declared.fault.HostFault.{HostFault}
 use Rattle.host.specs.declared.fault.HostFault.TheVariants.{Image}
-use Rattle.host.specs.Answers.{no_image, check_code, answer_of}
+use Rattle.host.specs.Answers.{no_image, checked, outcome_of}
 use Rattle.host.proofs.check.Goals as goal
 
 -- the code of a fault of opening
-coded : (o : Option ImageFault) (f : HostFault) → Some f ≡ told Image o → answer_of (Err f) ≡ check_code o
+coded : (o : Option ImageFault) (f : HostFault) → Some f ≡ told Image o → outcome_of (Err f) ≡ checked o
 coded None f e = cc
-coded (Some g) f e = let z : f ≡ Image g = cc in ap (λ h. answer_of (Err h)) z
+coded (Some g) f e = let z : f ≡ Image g = cc in ap (λ h. outcome_of (Err h)) z
 
 pub returns-in_err-open_image : goal.returns-in_err-open_image
 returns-in_err-open_image c =
     let x = err_from_is_err_and c.from_residual.result c.from_residual.ensures.1 in
-    ap answer_of (x.1 ∙ ap Err x.2) ∙ coded (no_image c.args.image.now) _ c.in_err-open_image.ensures.fault
+    ap outcome_of (x.1 ∙ ap Err x.2) ∙ coded (no_image c.args.image.now) _ c.in_err-open_image.ensures.fault

@@ -6,17 +6,17 @@ use Rattle.images.specs.Opening.{bytes_at}
 use Rattle.images.specs.declared.fault.ImageFault.{ImageFault}
 use Rattle.host.specs.declared.fault.HostFault.{HostFault}
 use Rattle.host.specs.declared.fault.HostFault.TheVariants.{Image}
-use Rattle.host.specs.Answers.{no_image, answer_of, Scrubbed, unopened, OneScrub}
+use Rattle.host.specs.Answers.{no_image, outcome_of, Scrubbed, unopened, OneAnswer}
 use Rattle.host.proofs.Opening.{few_readings}
 use Rattle.host.proofs.Once.{one_unopened}
 use Rattle.host.proofs.scrub.Goals as goal
 
 -- what is refused in opening
-stopped : (xs : List ℕ) (o : Option ImageFault) (f : HostFault) → no_image xs ≡ o → Some f ≡ told Image o → Scrubbed xs (answer_of (Err f)) xs
+stopped : (xs : List ℕ) (o : Option ImageFault) (f : HostFault) → no_image xs ≡ o → Some f ≡ told Image o → Scrubbed xs (outcome_of (Err f)) xs
 stopped xs None f is e = absurd cc
-stopped xs (Some g) f is e = let z : f ≡ Image g = cc in unopened g is (ap (λ h. answer_of (Err h)) z) refl
+stopped xs (Some g) f is e = let z : f ≡ Image g = cc in unopened g is (ap (λ h. outcome_of (Err h)) z) refl
 
-one_stopped : (xs : List ℕ) (o : Option ImageFault) (f : HostFault) → no_image xs ≡ o → Some f ≡ told Image o → OneScrub xs
+one_stopped : (xs : List ℕ) (o : Option ImageFault) (f : HostFault) → no_image xs ≡ o → Some f ≡ told Image o → OneAnswer xs
 one_stopped xs None f is e = absurd cc
 one_stopped xs (Some g) f is e = one_unopened xs g is
 
@@ -26,7 +26,7 @@ returns-in_err-opened-clause-only c = one_stopped c.args.image.now (no_image c.a
 pub returns-in_err-opened-clause-scrubbed : goal.returns-in_err-opened-clause-scrubbed
 returns-in_err-opened-clause-scrubbed c =
     let xs = c.args.image.now in let x = err_from_is_err_and c.from_residual.result c.from_residual.ensures.1 in
-    subst (λ w. Scrubbed xs (answer_of w) xs) (sym (x.1 ∙ ap Err x.2)) (stopped xs (no_image xs) _ refl c.in_err-opened.ensures.fault)
+    subst (λ w. Scrubbed xs (outcome_of w) xs) (sym (x.1 ∙ ap Err x.2)) (stopped xs (no_image xs) _ refl c.in_err-opened.ensures.fault)
 
 pub slice_bounds-room-end : goal.slice_bounds-room-end
 slice_bounds-room-end c =
