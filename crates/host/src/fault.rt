@@ -14,7 +14,7 @@ pub enum HostFault {
     Image(ImageFault),
     // the cells are not scrubbed
     Page(PageFault),
-    // the scrubbed page is not saved, which no opened page is refused
+    // the scrubbed page is not saved; no page that was opened comes to this
     Save(SaveFault),
 }
 
