@@ -1,43 +1,54 @@
 /*
  * The page codec's two functions for host programs: check and scrub, on the bytes of a page's image.
  *
- * An image is a page of multi-level memory cells as bytes: blocks of 512 bytes, numbers with their low byte first. Block 0 names
- * the page (its kind of field, its numbers and its marked columns), and each further block holds 254 readings of two bytes. Every
- * block ends with a check of its bytes. So an image has from 1,024 to 17,408 bytes, always a multiple of 512.
+ * THE IMAGE. A page has R rows of n cells, and a cell holds one of up to 4,096 levels, which may rise with time. Its image is the
+ * page with its cells as bytes: blocks of 512 bytes, 2 to 34 of them, so from 1,024 to 17,408 bytes. Numbers have their low byte
+ * first. Bytes 508 to 511 of each block hold its check: 1 + the block's place + the sum of (j + 1) * byte j, for j from 0 to 507.
  *
- * Both functions answer one number of 64 bits.
+ *   block 0    bytes 0 to 3    0x41 0x4C 0x4D 0x50
+ *              4               the edition, 1
+ *              5               the kind of the page's field, 1 to 7
+ *              6 and 7         n, the columns
+ *              8               r, the check columns
+ *              9               R, the rows
+ *              10 and 11       H, the heights
+ *              12 and 13       D, the drift bound: how far a cell may rise
+ *              14              how many columns are marked, as those whose cells are no longer to be trusted
+ *              16 on           the marked columns, rising, two bytes each
+ *   the others bytes 0 to 507  254 readings, two bytes each, row after row: what the cells read now
  *
- *   Below 2^32 the call is done: almp_check answers 0, and almp_scrub by how many levels the cells had risen in all, which is
- *   below 2^32, and 0 where none had.
+ * All other bytes are filler, which is 0.
+ *
+ * THE ANSWERS. Both functions answer one number of 64 bits.
+ *
+ *   Below 2^32 the call is done: almp_check answers 0, and almp_scrub by how many levels the unmarked cells had risen in all.
  *
  *   From 2^32 on it is refused: the answer is refusal number * 2^32 + first place * 2^16 + second place, and no byte has moved.
- *   ALMP_REFUSAL, ALMP_FIRST and ALMP_SECOND take it apart; ALMP_REFUSAL is 0 where the call is done. A place that is not named is 0.
+ *   ALMP_REFUSAL, ALMP_FIRST and ALMP_SECOND take these three out; ALMP_REFUSAL is 0 where the call is done. A place that is not
+ *   named is 0. Blocks, bytes, rows and columns are counted from 0.
  *
- *   number  why                                                            first place                 second place
- *   ALMP_LENGTH   31  the size is no multiple of 512, below 1,024 or above 17,408
- *   ALMP_CHECK    32  the check of a block is wrong                        the block
- *   ALMP_WORD     33  the first word or the edition is wrong                                           the byte
- *   ALMP_HEADER   34  block 0 names no page                                1 its kind, 2 the columns, 3 the check columns,
- *                                                                          4 the rows, 5 the heights, 6 the drift bound
- *   ALMP_MARKING  35  block 0 marks columns that no such page can have                                 14 too many, else the first
- *                     marked                                                                           byte of the wrong column
- *   ALMP_BLOCKS   36  another number of blocks than the page has           the number wanted
- *   ALMP_FILLER   37  filler that is not 0                                 the block                   the byte in the block
+ *   Of both functions:
+ *   31 ALMP_LENGTH   the size is no multiple of 512, below 1,024 or above 17,408
+ *   32 ALMP_CHECK    the check of a block is wrong. First place: the block
+ *   33 ALMP_WORD     one of the bytes 0 to 4 is wrong. Second place: that byte
+ *   34 ALMP_HEADER   block 0 names no page. First place, what is out of its range: 1 the kind, 2 n, 3 r, 4 R, 5 H, 6 D
+ *   35 ALMP_MARKING  there are more marked columns than check columns, or one is not below n or not above the one before. Second
+ *                    place: 14 for too many, else the first byte of the wrong column
+ *   36 ALMP_BLOCKS   the image has another number of blocks than the page takes. First place: how many it takes
+ *   37 ALMP_FILLER   filler is not 0. First place: the block; second place: the byte in it
  *
- *   and of almp_scrub also
+ *   Of almp_scrub, on an image:
+ *   21 ALMP_READING  an unmarked cell reads no level. First place: its row; second place: its column
+ *   22 ALMP_LOST     too many cells of a row have risen, or are marked, for its levels to be found. First place: the row
+ *   23 ALMP_FAR      a cell has risen by more than D. First place: its row; second place: its column
+ *   24 ALMP_UNDER    a cell has drifted by more than it reads. First place: its row; second place: its column
  *
- *   ALMP_READING  21  a cell in an unmarked column reads no level          the cell's row              the cell's column
- *   ALMP_LOST     22  no code row is close enough to a row                 the row
- *   ALMP_FAR      23  a cell has risen by more than the drift bound        the cell's row              the cell's column
- *   ALMP_UNDER    24  a cell has drifted by more than it reads             the cell's row              the cell's column
+ *   The lowest number from 31 to 37 is answered, at its lowest block and byte. Of an image it is 21, at the lowest cell; then 22, 23
+ *   or 24 of the lowest row that has one, 22 before 23 and 23 before 24. No other refusal comes.
  *
- * Blocks, bytes, rows and columns are counted from 0. Bytes are looked at in the order 31 to 37, and within each number the lowest
- * block and byte first, so that the first that fails is the refusal. The cells come after all of them: 21 before 22, 23 and 24 of
- * any row, and then the lowest row that has one, 22 before 23 and 23 before 24.
- *
- * A call reads and writes only the bytes it is given and its own stack. It allocates no memory, keeps nothing between calls, calls
- * nothing of the program but memcpy and memset, and always returns. So any number of threads may call both at once, on different
- * bytes; on the same bytes at once only almp_check. A call takes less than 256 KiB of stack on x86-64 (measured, not proved).
+ * THE CALLS. A call reads and writes only the bytes it is given and its own stack, of which it takes less than 256 KiB on x86-64
+ * (measured, not proved). It allocates no memory, keeps nothing between calls, calls nothing of the program but memcpy and memset,
+ * and always returns. So any number of threads may call both at once, on different bytes; on the same bytes only almp_check.
  *
  * This header is C99 and C++. What the functions promise is proved of their source; nothing checks these declarations against it.
  */
