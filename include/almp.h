@@ -13,7 +13,7 @@
  *              9               R, the rows
  *              10 and 11       H, the heights
  *              12 and 13       D, the drift bound: how far a cell may rise
- *              14              how many columns are marked, as those whose cells are no longer to be trusted
+ *              14              how many columns are marked: what their cells read counts for nothing
  *              16 on           the marked columns, rising, two bytes each
  *   the others bytes 0 to 507  254 readings, two bytes each, row after row: what the cells read now
  *
