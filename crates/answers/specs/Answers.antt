@@ -10,8 +10,8 @@ use Rattle.images.specs.Format.{Stored, image_of}
 use Rattle.images.specs.Opening.{bytes_at, stored_in, open_fault}
 use Rattle.images.specs.Refusals.{image_refusal, save_refusal}
 use Rattle.images.specs.declared.fault.ImageFault.{ImageFault}
-use Rattle.host.specs.declared.fault.HostFault.{HostFault}
-use Rattle.host.specs.declared.fault.HostFault.TheVariants.{Image, Page, Save}
+use Rattle.answers.specs.declared.fault.HostFault.{HostFault}
+use Rattle.answers.specs.declared.fault.HostFault.TheVariants.{Image, Page, Save}
 
 -- the refusal that each fault is
 abbrev pub host_refusal : HostFault → Refusal

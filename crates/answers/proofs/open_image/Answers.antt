@@ -3,10 +3,10 @@ use Rattle.std.proofs.lemmas.Result.{err_from_is_err_and}
 use Rattle.basics.specs.Checks.{fault_of, told}
 use Rattle.images.specs.Opening.{bytes_at}
 use Rattle.images.specs.Opened.{Shows}
-use Rattle.host.specs.Answers.{no_image}
-use Rattle.host.specs.declared.fault.HostFault.TheVariants.{Image}
-use Rattle.host.proofs.Opening.{raw_opens, raw_bytes}
-use Rattle.host.proofs.open_image.Goals as goal
+use Rattle.answers.specs.Answers.{no_image}
+use Rattle.answers.specs.declared.fault.HostFault.TheVariants.{Image}
+use Rattle.answers.proofs.Opening.{raw_opens, raw_bytes}
+use Rattle.answers.proofs.open_image.Goals as goal
 
 pub returns-in_err-open-clause-fault : goal.returns-in_err-open-clause-fault
 returns-in_err-open-clause-fault c =
@@ -22,7 +22,7 @@ returns c =
       fault = sym (ap (told Image) none);
       opened = record {
         image = none;
-        bytes = ap bytes_at c.in_ok-open.ensures.bytes ∙ bytes;
+        bytes = ap (λ r. bytes_at r.bytes) c.in_ok-open.ensures.kept ∙ bytes;
         page = subst (λ at. Shows at c.in_ok-open.field-0.page) bytes c.in_ok-open.ensures.page;
       };
     }

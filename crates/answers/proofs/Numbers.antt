@@ -13,7 +13,7 @@ use Rattle.rules.specs.declared.fault.PageFault.TheVariants.{Reading, Far, Under
 use Rattle.images.specs.Refusals.{image_refusal}
 use Rattle.images.specs.declared.fault.ImageFault.{ImageFault}
 use Rattle.images.specs.declared.fault.ImageFault.TheVariants.{Length, Check, Word, Header, Marking, Blocks, Filler}
-use Rattle.host.specs.Answers.{refusal_in, page_in, state_in, Says, Comes, Scrubbed, unopened, unread, unreached, scrubbed}
+use Rattle.answers.specs.Answers.{refusal_in, page_in, state_in, Says, Comes, Scrubbed, unopened, unread, unreached, scrubbed}
 
 -- a check, and the lowest of many, say one of their own
 from_check : {F : Type 0} (b : Bool) (g f : F) → check b g ≡ Some f → g ≡ f

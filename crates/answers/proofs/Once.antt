@@ -13,8 +13,8 @@ use Rattle.images.specs.Format.{cell_count, image_of}
 use Rattle.images.specs.Opening.{bytes_at, reading_at}
 use Rattle.images.specs.Refusals.{image_refusal}
 use Rattle.images.specs.declared.fault.ImageFault.{ImageFault}
-use Rattle.host.specs.Answers.{no_image, held, page_in, state_in, with_cells, Scrubbed, unopened, unread, unreached, scrubbed, Says, OneAnswer}
-use Rattle.host.proofs.Opening.{kind_in, in_range}
+use Rattle.answers.specs.Answers.{no_image, held, page_in, state_in, with_cells, Scrubbed, unopened, unread, unreached, scrubbed, Says, OneAnswer}
+use Rattle.answers.proofs.Opening.{kind_in, in_range}
 
 module _ (xs : List ℕ) where
   -- what cells decode to is one thing

@@ -2,8 +2,8 @@ use Rattle.std.proofs.Common.{ℕ, subst, ap, ◌∙◌}
 use Rattle.fields.specs.Rings.{Inverses, Points}
 use Rattle.fields.specs.Kinds.{ops_of, generator_of, inverse_of, point_of}
 use Rattle.fields.specs.Numbered.{number_of}
-use Rattle.host.proofs.Once.{one_of_kind}
-use Rattle.host.proofs.one_answer.Goals as goal
+use Rattle.answers.proofs.Once.{one_of_kind}
+use Rattle.answers.proofs.one_answer.Goals as goal
 
 pub returns : goal.returns
 returns c =

@@ -2,10 +2,10 @@ use Rattle.std.proofs.Common.{◌≡◌, Some, None, Err, Option, ap, ◌∙◌}
 use Rattle.std.proofs.lemmas.Result.{err_from_is_err_and}
 use Rattle.basics.specs.Checks.{told}
 use Rattle.images.specs.declared.fault.ImageFault.{ImageFault}
-use Rattle.host.specs.declared.fault.HostFault.{HostFault}
-use Rattle.host.specs.declared.fault.HostFault.TheVariants.{Image}
-use Rattle.host.specs.Answers.{no_image, checked, outcome_of}
-use Rattle.host.proofs.check.Goals as goal
+use Rattle.answers.specs.declared.fault.HostFault.{HostFault}
+use Rattle.answers.specs.declared.fault.HostFault.TheVariants.{Image}
+use Rattle.answers.specs.Answers.{no_image, checked, outcome_of}
+use Rattle.answers.proofs.check_image.Goals as goal
 
 -- the code of a fault of opening
 coded : (o : Option ImageFault) (f : HostFault) → Some f ≡ told Image o → outcome_of (Err f) ≡ checked o

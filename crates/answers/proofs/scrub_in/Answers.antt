@@ -5,10 +5,10 @@ use Rattle.rules.specs.Pages.{tabled}
 use Rattle.images.specs.Format.{cell_count, image_of}
 use Rattle.images.specs.Opening.{bytes_at, reading_at}
 use Rattle.images.specs.Opened.{Shows}
-use Rattle.host.specs.Answers.{outcome_of, Scrubbed}
-use Rattle.host.proofs.Opening.{never}
-use Rattle.host.proofs.Scrubbing.{scrubs_held, gives_held, saves_held, stored_held, scrub_refuses, scrub_leaves}
-use Rattle.host.proofs.scrub_in.Goals as goal
+use Rattle.answers.specs.Answers.{outcome_of, Scrubbed}
+use Rattle.answers.proofs.Opening.{never}
+use Rattle.answers.proofs.Scrubbing.{scrubs_held, gives_held, saves_held, stored_held, scrub_refuses, scrub_leaves}
+use Rattle.answers.proofs.scrub_in.Goals as goal
 
 pub returns-in_err-cells : goal.returns-in_err-cells
 returns-in_err-cells c =

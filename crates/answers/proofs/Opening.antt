@@ -23,7 +23,7 @@ use Rattle.images.specs.Opened.{cells_fault}
 use Rattle.images.specs.Saving.{save_fault}
 use Rattle.images.specs.declared.fault.ImageFault.TheVariants.{Length, Header, Marking, Blocks}
 use Rattle.images.specs.declared.fault.SaveFault.TheVariants.{Page}
-use Rattle.images.proofs.Opening.{told_none, few_cells}
+use Rattle.images.proofs.Opening.{few_cells, few_bytes, passed}
 use Rattle.images.proofs.Saving.{image_fine}
 
 -- a check that passes refuses nothing
@@ -45,31 +45,15 @@ raw_opens xs ys size e h = ap (open_fault (bytes_at ys)) e ∙ elim (cases_lt 17
   | inr l ↦ let same : bytes_at ys ≡ bytes_at xs = fun_ext (h l) in ap (λ (at : ℕ → ℕ). open_fault at (length xs)) same
 ]
 
--- checks of which none fails
-passed : {F : Type 0} (a b c d e f g : Option F) → (a or_else b or_else c or_else d or_else e or_else f or_else g) ≡ None → (a ≡ None) × (d ≡ None) × (f ≡ None)
-passed a b c d e f g z =
-    let y = both_none a _ z in let x = both_none d _ (both_none c _ (both_none b _ y.1).1).1 in (y.0, x.0, (both_none f g (both_none e _ x.1).1).0)
-
 -- bytes that open
 module _ (at : ℕ → ℕ) (size : ℕ) (o : open_fault at size ≡ None) where
-  parts : (check (not (eqb (size % 512) 0) || outside 1024 17408 size) Length ≡ None) × (told Header (kind_fault (at 5) (numbers_in at)) ≡ None)
-      × (check (not (eqb size (image_size (numbers_in at)))) (Blocks (1 + blocks_of_levels (cell_count (numbers_in at)))) ≡ None)
-  parts =
-      passed (check (not (eqb (size % 512) 0) || outside 1024 17408 size) Length) (lowest 0 (size / 512) (seal_fault at)) (lowest 0 5 (word_fault at))
-      (told Header (kind_fault (at 5) (numbers_in at))) (told Marking (marking_fault (numbers_in at) (marking_in at)))
-      (check (not (eqb size (image_size (numbers_in at)))) (Blocks (1 + blocks_of_levels (cell_count (numbers_in at))))) (lowest 0 size (filler_fault at)) o
+  -- are as many as the page's image has
+  whole : size ≡ image_size (numbers_in at)
+  whole = (passed at size o).size_is
 
-  -- are no more than an image can have
-  pub few_bytes : size ≤ 17408
-  few_bytes = ltb-false 17408 size (or_parts _ _ (or_parts _ _ (check_none _ Length parts.0)).1).1
-
-  -- and as many as the page's image has
-  pub whole : size ≡ image_size (numbers_in at)
-  whole = eqb-true _ _ (not-false _ (check_none _ _ parts.2))
-
-  -- their page is in order
+  -- and their page is in order
   ordered : kind_fault (at 5) (numbers_in at) ≡ None
-  ordered = told_none Header _ parts.1
+  ordered = (passed at size o).ordered
 
   pub few_readings : cell_count (numbers_in at) ≤ 8192
   few_readings = few_cells (at 5) (numbers_in at) ordered

@@ -1,7 +1,7 @@
 // Why a host's call is refused, and the one number that says it.
 ghost use Rattle.std.specs.Prelude.{◌≡◌};
-ghost use Rattle.host.specs.Answers.{code_of, refusal_in, host_refusal, outcome_of, Says};
-ghost use Rattle.host.specs.declared.fault.HostFault.TheVariants.{Image, Page, Save};
+ghost use Rattle.answers.specs.Answers.{code_of, refusal_in, host_refusal, outcome_of, Says};
+ghost use Rattle.answers.specs.declared.fault.HostFault.TheVariants.{Image, Page, Save};
 
 use images::fault::{ImageFault, SaveFault};
 use plans::fault::Refusal;

@@ -14,8 +14,8 @@ use Rattle.images.specs.Format.{cell_count, image_of}
 use Rattle.images.specs.Opening.{bytes_at, reading_at}
 use Rattle.images.specs.Opened.{cells_fault}
 use Rattle.images.specs.Saving.{save_fault, stored}
-use Rattle.host.specs.Answers.{no_image, held, page_in, state_in, with_cells, Scrubbed, unread, unreached, scrubbed}
-use Rattle.host.proofs.Opening.{gives_cells, takes_cells, saves}
+use Rattle.answers.specs.Answers.{no_image, held, page_in, state_in, with_cells, Scrubbed, unread, unreached, scrubbed}
+use Rattle.answers.proofs.Opening.{gives_cells, takes_cells, saves}
 
 -- a page of which the bytes show the kind, the numbers and the marking
 module _ (xs : List ℕ) (kind : ℕ) (plan : Plan) (k : kind ≡ (held xs).kind) (n : plan.numbers ≡ (held xs).numbers) (m : marking plan ≡ (held xs).marking) where

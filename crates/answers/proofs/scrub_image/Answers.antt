@@ -4,12 +4,12 @@ use Rattle.basics.specs.Checks.{told}
 use Rattle.images.specs.Format.{cell_count}
 use Rattle.images.specs.Opening.{bytes_at}
 use Rattle.images.specs.declared.fault.ImageFault.{ImageFault}
-use Rattle.host.specs.declared.fault.HostFault.{HostFault}
-use Rattle.host.specs.declared.fault.HostFault.TheVariants.{Image}
-use Rattle.host.specs.Answers.{no_image, outcome_of, Scrubbed, unopened, OneAnswer}
-use Rattle.host.proofs.Opening.{few_readings}
-use Rattle.host.proofs.Once.{one_unopened}
-use Rattle.host.proofs.scrub.Goals as goal
+use Rattle.answers.specs.declared.fault.HostFault.{HostFault}
+use Rattle.answers.specs.declared.fault.HostFault.TheVariants.{Image}
+use Rattle.answers.specs.Answers.{no_image, outcome_of, Scrubbed, unopened, OneAnswer}
+use Rattle.answers.proofs.Opening.{few_readings}
+use Rattle.answers.proofs.Once.{one_unopened}
+use Rattle.answers.proofs.scrub_image.Goals as goal
 
 -- what is refused in opening
 stopped : (xs : List ℕ) (o : Option ImageFault) (f : HostFault) → no_image xs ≡ o → Some f ≡ told Image o → Scrubbed xs (outcome_of (Err f)) xs
