@@ -30,6 +30,8 @@ pub enum Answer {
     },
     // the bytes of the image, in hexadecimal digits
     Image(String),
+    // what a function for hosts answers
+    Host(u64),
 }
 
 // Why a command is not carried out.
@@ -68,6 +70,7 @@ impl fmt::Display for Answer {
                 show_all(checks.as_slice(), f)
             }
             Answer::Image(digits) => write!(f, "image {digits}"),
+            Answer::Host(answer) => write!(f, "answer {answer}"),
         }
     }
 }

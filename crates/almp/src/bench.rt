@@ -67,6 +67,8 @@ impl Bench {
             Command::SetImage(bytes) => self.set_image(bytes),
             Command::Poke { at, byte } => self.poke(at, byte),
             Command::Open => self.open(heap),
+            Command::HostCheck => self.host_check(),
+            Command::HostScrub => self.host_scrub(),
         }
     }
 
@@ -129,6 +131,14 @@ impl Bench {
             cells,
         });
         Ok(Answer::Done)
+    }
+
+    fn host_check(&mut self) -> Result<Answer, Failure> {
+        Ok(Answer::Host(answers::check(self.image()?)))
+    }
+
+    fn host_scrub(&mut self) -> Result<Answer, Failure> {
+        Ok(Answer::Host(answers::scrub(self.image()?)))
     }
 }
 

@@ -43,6 +43,8 @@ word_of name.Save = codes "save"
 word_of name.Image = codes "image"
 word_of name.Poke = codes "poke"
 word_of name.Open = codes "open"
+word_of name.HostCheck = codes "hostcheck"
+word_of name.HostScrub = codes "hostscrub"
 
 -- the first word of a line is that of this command
 abbrev pub Begins : List (List ℕ) → Name → Type 0
@@ -62,6 +64,8 @@ Misshaped ws name.Save = length ws ≢ 1
 Misshaped ws name.Image = (length ws ≢ 1) × (length ws ≢ 2)
 Misshaped ws name.Poke = length ws ≢ 3
 Misshaped ws name.Open = length ws ≢ 1
+Misshaped ws name.HostCheck = length ws ≢ 1
+Misshaped ws name.HostScrub = length ws ≢ 1
 
 -- a line of this command and these numbers
 abbrev pub Line : List (List ℕ) → Name → List ℕ → Type 0
@@ -88,6 +92,8 @@ Asks ws command.Image = Line ws name.Image []
 Asks ws (command.SetImage bytes) = Begins ws name.Image × (length ws ≡ 2) × (decode_of (slice_index_or ws 1 []) ≡ Ok (vec_items bytes))
 Asks ws (command.Poke at byte) = Line ws name.Poke (at ∷ byte ∷ [])
 Asks ws command.Open = Line ws name.Open []
+Asks ws command.HostCheck = Line ws name.HostCheck []
+Asks ws command.HostScrub = Line ws name.HostScrub []
 
 -- the fault of some words of a line, of which the first has this place, counted from 1: it names one that is no number; or there was no memory
 abbrev pub BadNumber : ℕ → List (List ℕ) → LineFault → Type 0

@@ -71,6 +71,10 @@ pub enum Command {
     },
     // the image's page and cells take the place of those held
     Open,
+    // the host's check on the image
+    HostCheck,
+    // the host's scrub on the image
+    HostScrub,
 }
 
 // The first word of a command.
@@ -88,6 +92,8 @@ pub enum Name {
     Image,
     Poke,
     Open,
+    HostCheck,
+    HostScrub,
 }
 
 // Why a line cannot be carried out.
@@ -131,6 +137,8 @@ impl fmt::Display for Name {
             Name::Image => "image takes nothing, or one word: HEX",
             Name::Poke => "poke takes two numbers: AT BYTE",
             Name::Open => "open takes nothing",
+            Name::HostCheck => "hostcheck takes nothing",
+            Name::HostScrub => "hostscrub takes nothing",
         })
     }
 }
@@ -179,6 +187,8 @@ fn named(word: &[u8]) -> Option<Name>
         b"image" => Name::Image,
         b"poke" => Name::Poke,
         b"open" => Name::Open,
+        b"hostcheck" => Name::HostCheck,
+        b"hostscrub" => Name::HostScrub,
         _ => return None,
     })
 }
@@ -201,6 +211,8 @@ fn understand(heap: Global, word: &[u8], arguments: &[&[u8]]) -> Result<Command,
         Name::Image => image(heap, arguments),
         Name::Poke => poke(arguments),
         Name::Open => alone(name, arguments, Command::Open),
+        Name::HostCheck => alone(name, arguments, Command::HostCheck),
+        Name::HostScrub => alone(name, arguments, Command::HostScrub),
     }
 }
 
