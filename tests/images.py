@@ -10,6 +10,7 @@ program's. The same seed gives the same images. Prints how many were compared; t
 """
 
 import argparse
+import collections
 import concurrent.futures
 import os
 import random
@@ -59,7 +60,8 @@ def drifted(rng, kind):
     for row in range(page.rows):
         for column in rng.sample(range(page.n), min(page.n, (page.r - len(page.marked)) // 2 + rng.choice([0, 0, 0, 1]))):
             at = row * page.n + column
-            cells[at] = min(65535, cells[at] + rng.choice([rng.randint(1, page.drift), rng.randint(1, page.drift), page.drift + 1, page.levels]))
+            moved = rng.choice([rng.randint(1, page.drift)] * 4 + [page.drift + 1, page.levels, -rng.randint(1, page.order)])
+            cells[at] = max(0, cells[at] + moved)
         for column in page.marked:
             cells[row * page.n + column] = rng.randrange(65536)
     yield "image " + image_of(page, cells).hex()
@@ -129,14 +131,14 @@ def scripts(seed, images):
 def main():
     parser = argparse.ArgumentParser(description="Holds the program's images to the independent reader and writer.")
     parser.add_argument("program")
-    parser.add_argument("--images", type=int, default=2100, help="pages that are saved")
+    parser.add_argument("--images", type=int, default=7000, help="pages that are saved, or drifted and scrubbed")
     parser.add_argument("--seed", type=int, default=1)
     options = parser.parse_args()
     told = [(name, lines, "".join(line + "\n" for line in lines).encode()) for name, lines in scripts(options.seed, options.images)]
     with concurrent.futures.ThreadPoolExecutor(os.cpu_count()) as pool:
         found = list(pool.map(lambda named: differs(options.program, named[0], named[2]), told))
-    looks = sum(line.split()[0] in ("open", "hostcheck", "hostscrub") for _, lines, _ in told for line in lines)
-    print(f"{options.images} pages saved, {looks} images opened, checked or scrubbed, in all")
+    words = collections.Counter(line.split()[0] for _, lines, _ in told for line in lines)
+    print(", ".join(f"{words[word]} times {word}" for word in ["save", "open", "hostcheck", "hostscrub"]) + ", in all")
     sys.exit(any(found))
 
 
