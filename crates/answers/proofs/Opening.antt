@@ -1,15 +1,14 @@
 -- Bytes that open, and bytes that do not.
-use Rattle.std.proofs.Common.{◌≡◌, ℕ, ◌/◌, ◌%◌, ◌+◌, ◌<◌, ◌≤◌, not, ◌||◌, eqb, ltb, List, length, get_or, Some, None, Err, Option, sym, ap, ◌∙◌, inl, inr}
+use Rattle.std.proofs.Common.{◌≡◌, ℕ, ◌%◌, ◌<◌, ◌≤◌, not, ◌||◌, eqb, ltb, List, length, get_or, Some, None, Err, Option, sym, ap, ◌∙◌, inl, inr}
 use Rattle.std.proofs.Math.Bool.{or-true}
 use Rattle.std.proofs.Math.Path.{fun_ext}
-use Rattle.std.proofs.lemmas.Bool.{cases_lt, lt-ltb, ltb-false, or_parts, eqb-true, eq-eqb, not-false}
-use Rattle.basics.specs.Checks.{check, ◌or_else◌, lowest, told, verdict}
+use Rattle.std.proofs.lemmas.Bool.{cases_lt, lt-ltb, ltb-false, or_parts, eq-eqb}
+use Rattle.basics.specs.Checks.{check, told, verdict}
 use Rattle.basics.proofs.Checking.{both_none, check_none, check_false, first_passes, others_pass, some_first, some_from_verdict}
 use Rattle.fields.specs.Kinds.{order_of, ops_of}
 use Rattle.fields.specs.Seven.{laws, order_is}
 use Rattle.plans.specs.Orders.{order_fault, outside, Ranges}
 use Rattle.plans.proofs.Ranged.{ranges}
-use Rattle.plans.specs.Marks.{marking_fault}
 use Rattle.plans.specs.declared.fault.OrderFault.{OrderFault}
 use Rattle.plans.specs.declared.fault.OrderFault.TheVariants.{Kind}
 use Rattle.rules.specs.Pages.{State}
@@ -17,11 +16,11 @@ use Rattle.rules.specs.Calls.{numbers_fault, handed}
 use Rattle.rules.specs.Views.{kind_fault, of_kind}
 use Rattle.rules.specs.declared.fault.Buffer.TheVariants.{Cells}
 use Rattle.rules.specs.declared.fault.PageFault.TheVariants as page
-use Rattle.images.specs.Format.{blocks_of_levels, cell_count, image_size}
-use Rattle.images.specs.Opening.{bytes_at, numbers_in, marking_in, seal_fault, word_fault, filler_fault, open_fault}
+use Rattle.images.specs.Format.{cell_count, image_size}
+use Rattle.images.specs.Opening.{bytes_at, numbers_in, open_fault}
 use Rattle.images.specs.Opened.{cells_fault}
 use Rattle.images.specs.Saving.{save_fault}
-use Rattle.images.specs.declared.fault.ImageFault.TheVariants.{Length, Header, Marking, Blocks}
+use Rattle.images.specs.declared.fault.ImageFault.TheVariants.{Length}
 use Rattle.images.specs.declared.fault.SaveFault.TheVariants.{Page}
 use Rattle.images.proofs.Opening.{few_cells, few_bytes, passed}
 use Rattle.images.proofs.Saving.{image_fine}
