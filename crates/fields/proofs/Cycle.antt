@@ -67,6 +67,14 @@ module _ {o : RingOps} (r : RingLaws o) where
   mul_none_right a b y e z =
       sym (r.mul_taken a b ∙ ap (o.mul (taken o.order a)) (sym e ∙ z) ∙ mul_zero _ (taken_in o.order a zero_in))
 
+  -- 0 is added, and added to
+  pub add_none : (a s x : ℕ) → s ≡ taken o.order a → 0 ≡ x → s ≡ o.add a x
+  add_none a s x e z =
+      e ∙ sym (r.add_taken a 0 ∙ ap (o.add (taken o.order a)) (taken_same o.order 0 zero_in) ∙ r.add_zero _ (taken_in o.order a zero_in)) ∙ ap (o.add a) z
+
+  pub none_add : (x : ℕ) → x < o.order → o.add 0 x ≡ x
+  none_add x h = r.add_comm 0 x zero_in h ∙ r.add_zero x h
+
   -- a number has at most one inverse
   once : (a b c : ℕ) → a < o.order → b < o.order → c < o.order → o.mul a b ≡ 1 → o.mul a c ≡ 1 → b ≡ c
   once a b c ha hb hc p q =

@@ -2,10 +2,10 @@
 ghost use Rattle.std.specs.Prelude.{◌≡◌, ℕ, ◌+◌, ◌<◌, ◌≤◌, nat_lt};
 ghost use Rattle.fields.specs.Rings.{taken, power as power_of};
 ghost use Rattle.fields.specs.Kinds.{order_of, ops_of, generator_of, inverse_of, point_of, Powers};
-ghost use Rattle.fields.specs.Numbered.{number_of, NumberedBy, LookedUp};
+ghost use Rattle.fields.specs.Numbered.{number_of, NumberedBy, LookedUp, Multiplies};
 ghost use Rattle.fields.specs.Seven.{laws, number_in};
 
-use crate::{Field, Ring, reduced, tables};
+use crate::{Field, LANES, Lanes, Ring, reduced, tables};
 
 // Kinds 1 to 4: whole numbers modulo 17, 31, 127 and 257. 5 to 7: binary polynomials modulo 0x13, 0x43 and 0x11D.
 #[derive(Clone, Copy, PartialEq, Eq, Debug)]
@@ -30,6 +30,19 @@ pub struct UnknownKind {
 enum Lookup {
     Inverses(&'static [u16]),
     Logarithms(&'static [u16]),
+}
+
+// An element that others are multiplied by, with what is looked up once: in a prime kind the element; in a binary kind, where it
+// is not 0, its logarithm and the tables.
+#[derive(Clone, Copy)]
+enum Factor {
+    Zero,
+    Element(u16),
+    Logarithm {
+        log: u16,
+        logarithms: &'static [u16],
+        powers: &'static [u16],
+    },
 }
 
 impl TryFrom<u16> for KindField {
@@ -124,12 +137,48 @@ impl KindField {
         }
     }
 
+    // a, to multiply by.
+    fn factor(&self, a: u16) -> Factor
+        ensures { Multiplies (number_of self.now) a result }
+    {
+        let x = self.reduced(a);
+        match self.lookup() {
+            Lookup::Inverses(_) => Factor::Element(x),
+            Lookup::Logarithms(_) if x == 0 => Factor::Zero,
+            Lookup::Logarithms(logarithms) => Factor::Logarithm {
+                log: logarithms[x as usize],
+                logarithms,
+                powers: self.powers(),
+            },
+        }
+    }
+
+    // sum + the factor × b, in the field, which has this order.
+    fn plus_times(&self, order: u16, factor: &Factor, sum: u16, b: u16) -> u16
+        requires order { order ≡ order_of (number_of self.now) }
+        requires factor { (a : ℕ) × Multiplies (number_of self.now) a factor.now }
+        ensures { (a : ℕ) → Multiplies (number_of self.now) a factor.now → result ≡ (ops_of (number_of self.now)).add sum ((ops_of (number_of self.now)).mul a b) }
+    {
+        let s = reduced(order, sum);
+        let y = reduced(order, b);
+        match *factor {
+            Factor::Zero => s,
+            Factor::Element(x) => ((s as u32 + x as u32 * y as u32) % order as u32) as u16,
+            Factor::Logarithm { .. } if y == 0 => s,
+            Factor::Logarithm {
+                log,
+                logarithms,
+                powers,
+            } => s ^ self.power(powers, log as usize + logarithms[y as usize] as usize),
+        }
+    }
+
     // The power of the generator with an exponent below twice the number of its powers.
-    fn power(&self, exponent: usize) -> u16
-        requires { exponent + 2 < order_of (number_of self.now) + order_of (number_of self.now) }
+    fn power(&self, powers: &[u16], exponent: usize) -> u16
+        requires table { Powers (ops_of (number_of self.now)) (generator_of (number_of self.now)) powers.now }
+        requires few { exponent + 2 < order_of (number_of self.now) + order_of (number_of self.now) }
         ensures { result ≡ power_of (ops_of (number_of self.now)) (generator_of (number_of self.now)) exponent }
     {
-        let powers = self.powers();
         if exponent < powers.len() {
             powers[exponent]
         } else {
@@ -168,16 +217,15 @@ impl Ring for KindField {
     }
 
     fn mul(&self, a: u16, b: u16) -> u16 {
-        let x = self.reduced(a);
-        let y = self.reduced(b);
-        match self.lookup() {
-            Lookup::Inverses(_) => (x as u32 * y as u32 % self.size() as u32) as u16,
-            Lookup::Logarithms(logarithms) => {
-                if x == 0 || y == 0 {
-                    return 0;
-                }
-                self.power(logarithms[x as usize] as usize + logarithms[y as usize] as usize)
-            }
+        self.plus_times(self.size(), &self.factor(a), 0, b)
+    }
+
+    // The order and the factor are looked up once.
+    fn scale_add(&self, a: u16, xs: &Lanes, sums: &mut Lanes, width: usize) {
+        let order = self.size();
+        let factor = self.factor(a);
+        for (l, sum) in sums[..width.min(LANES)].iter_mut().enumerate() {
+            *sum = self.plus_times(order, &factor, *sum, xs[l]);
         }
     }
 }
@@ -196,7 +244,7 @@ impl Field for KindField {
                 if x == 0 {
                     return 0;
                 }
-                self.power(powers.len() - logarithms[x as usize] as usize)
+                self.power(powers, powers.len() - logarithms[x as usize] as usize)
             }
         }
     }

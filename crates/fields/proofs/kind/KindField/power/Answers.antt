@@ -6,5 +6,5 @@ use Rattle.fields.proofs.kind.KindField.power.Goals as goal
 
 pub returns-else-exponent-powers : goal.returns-else-exponent-powers
 returns-else-exponent-powers c =
-    let k = number_of c.args.self.now in let ok = number_in c.args.self.now in let p = c.powers-powers.ensures in let n = p.long in let o = order_is k ok in
+    let k = number_of c.args.self.now in let ok = number_in c.args.self.now in let p = c.requires.table in let n = p.long in let o = order_is k ok in
     power_past (laws k ok) (generator_in k ok) p c.args.exponent (omega arith) (omega arith)
