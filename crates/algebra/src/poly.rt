@@ -46,10 +46,7 @@ pub fn multiply<R: Ring>(ring: &R, a: &[u16], b: &[u16], product: &mut [u16])
 pub fn evaluate<R: Ring>(ring: &R, coefficients: &[u16], x: u16) -> u16
     ensures { result ≡ value_at (R.Ring.ops ring.now) coefficients.now x }
 {
-    coefficients
-        .iter()
-        .rev()
-        .fold(0, |value, c| ring.add(*c, ring.mul(x, value)))
+    ring.horner(coefficients, x)
 }
 
 // The polynomial 1.

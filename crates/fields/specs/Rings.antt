@@ -1,5 +1,6 @@
 -- What a ring and a field on the numbers below an order are, and sums and powers in them.
-use Rattle.std.specs.Prelude.{◌≡◌, ℕ, zero, suc, ◌+◌, ◌<◌, ◌≤◌, cond, List, [], length, nat_lt, slice_index, slice_index_or}
+use Rattle.std.specs.Prelude.{◌≡◌, ℕ, zero, suc, ◌+◌, ◌<◌, ◌≤◌, cond, List, [], length, reverse, nat_lt, slice_index, slice_index_or}
+use Rattle.std.specs.List.{fold}
 
 -- a ring's meaning: its order Q, whose elements are the numbers 0 to Q - 1, and its operations, at every number
 pub record RingOps : Type 0 where
@@ -59,6 +60,10 @@ sum o (suc n) f = o.add (sum o n f) (f n)
 unfoldable pub power : RingOps → ℕ → ℕ → ℕ
 power o a zero = 1
 power o a (suc j) = o.mul a (power o a j)
+
+-- the value at x of the polynomial of these coefficients, by Horner's rule: c 0 + x × (c 1 + x × (c 2 + ..))
+abbrev pub horner_of : RingOps → List ℕ → ℕ → ℕ
+horner_of o cs x = fold (λ v c. o.add c (o.mul x v)) 0 (reverse cs)
 
 -- entry l of row i
 abbrev pub entry : List (List ℕ) → ℕ → ℕ → ℕ

@@ -228,6 +228,17 @@ impl Ring for KindField {
             *sum = self.plus_times(order, &factor, *sum, xs[l]);
         }
     }
+
+    // And what x multiplies by, once for all coefficients.
+    fn horner(&self, coefficients: &[u16], x: u16) -> u16 {
+        let order = self.size();
+        let factor = self.factor(x);
+        let mut value = 0;
+        for coefficient in coefficients.iter().rev() {
+            value = self.plus_times(order, &factor, *coefficient, value);
+        }
+        value
+    }
 }
 
 impl Field for KindField {

@@ -2,7 +2,7 @@
 #![tactic(auto)]
 
 ghost use Rattle.std.specs.Prelude.{◌≡◌, ℕ, ◌<◌, ◌≤◌, min, length, slice_index};
-ghost use Rattle.fields.specs.Rings.{RingOps, RingLaws, Inverses, Points, Combined, taken};
+ghost use Rattle.fields.specs.Rings.{RingOps, RingLaws, Inverses, Points, Combined, taken, horner_of};
 ghost use Rattle.basics.specs.Lists.{Updated};
 
 mod kind;
@@ -57,6 +57,16 @@ pub trait Ring {
             self.scale_add(coefficients[i], row, &mut sums, width);
         }
         sums
+    }
+
+    // The value at x of the polynomial of these coefficients, the constant first.
+    fn horner(&self, coefficients: &[u16], x: u16) -> u16
+        ensures { result ≡ horner_of (ops self.now) coefficients.now x }
+    {
+        coefficients
+            .iter()
+            .rev()
+            .fold(0, |value, c| self.add(*c, self.mul(x, value)))
     }
 
     ghost ring: { (f : Self) → RingLaws (ops f) };
