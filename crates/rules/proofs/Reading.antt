@@ -94,21 +94,21 @@ decided : (p : Setup) (e : Event) {b : List ℕ → Buffers} {t : List ℕ → S
 decided p e (unfound f u w) = inl (f, u, w)
 decided p e (found xs f l) = inr (xs, f, l)
 
--- an accepted read found its page
-pub only_found : (p : Setup) (s t : State) (b u : Buffers) (d k : ℕ) → Step p (event s (read b) (counted d k) u t) → (xs : List ℕ) × Found p s xs
+-- an accepted read found its page, whose contents it leaves
+pub only_found : (p : Setup) (s t : State) (b u : Buffers) (d k : ℕ) → Step p (event s (read b) (counted d k) u t) → (xs : List ℕ) × Found p s xs × (u ≡ contents p xs)
 only_found p s t b u d k step = on (fault p s (read b)) step
   where
     e : Event
     e = event s (read b) (counted d k) u t
 
-    on : (o : Option PageFault) → Follows p (event s (read b) (counted d k) u t) o → (xs : List ℕ) × Found p s xs
+    on : (o : Option PageFault) → Follows p (event s (read b) (counted d k) u t) o → (xs : List ℕ) × Found p s xs × (u ≡ contents p xs)
     on (Some f) w = let h = w.why in let z : ◌≡◌ {A = ℕ} 0 1 = cc in absurd (omega arith)
     on None w = either (decided p (event s (read b) (counted d k) u t) w)
       where
         either : ((f : PageFault) × Unfound p s f × Refuses p (event s (read b) (counted d k) u t) f)
-            ⊎ ((xs : List ℕ) × Found p s xs × Leaves p (event s (read b) (counted d k) u t) (counted (drifted p s.marking s.cells xs) (risen p s.marking s.cells xs)) (contents p xs) s) → (xs : List ℕ) × Found p s xs
+            ⊎ ((xs : List ℕ) × Found p s xs × Leaves p (event s (read b) (counted d k) u t) (counted (drifted p s.marking s.cells xs) (risen p s.marking s.cells xs)) (contents p xs) s) → (xs : List ℕ) × Found p s xs × (u ≡ contents p xs)
         either (inl (f, a, r)) = let h = r.why in let z : ◌≡◌ {A = ℕ} 0 1 = cc in absurd (omega arith)
-        either (inr (xs, f, l)) = (xs, f)
+        either (inr (xs, f, l)) = (xs, f, l.buffers_are)
 
 -- the page's own numbers pass
 numbers_pass : (p : Setup) → order_fault (q p) p.numbers ≡ None → numbers_fault p ≡ None
