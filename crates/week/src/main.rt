@@ -5,7 +5,7 @@ mod label;
 mod week;
 
 use std::process::ExitCode;
-use week::{Trouble, Week};
+use week::{Contents, Trouble, Week};
 
 fn main(rt: HostRuntime) -> ExitCode {
     match run(&rt) {
@@ -19,9 +19,10 @@ fn main(rt: HostRuntime) -> ExitCode {
 }
 
 fn run(rt: &HostRuntime) -> Result<(), Trouble> {
-    let mut week = Week::monday(rt)?;
-    week.tuesday(rt)?;
+    let label = Contents::of_label();
+    let mut week = Week::monday(rt, &label)?;
+    week.tuesday(rt, &label)?;
     week.wednesday(rt)?;
-    week.thursday(rt)?;
-    week.friday(rt)
+    week.thursday(rt, &label)?;
+    week.friday(rt, &label)
 }

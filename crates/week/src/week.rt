@@ -1,5 +1,13 @@
 // What happens to the page, a day after the other. Each day makes the calls, and says what they answered.
+ghost use Rattle.std.specs.Prelude.{◌≡◌, ◌<◌, ◌%◌, if◌then◌else◌, IfOk, OnOk, slice_index};
+ghost use Rattle.algebra.specs.Rows.{among};
+ghost use Rattle.rules.specs.Pages.{tabled, Written};
+ghost use Rattle.rules.specs.Views.{marking, state, buffers};
+ghost use Rattle.pages.specs.Views.{over};
+ghost use Rattle.week.specs.Told.{ReadsAs};
+
 use crate::label::{KIND, LETTERS, NUMBERS, darkness};
+use codes::correct::is_marked;
 use fields::KindField;
 use images::open::Raw;
 use images::save::save;
@@ -9,17 +17,16 @@ use std::alloc::{AllocError, Global};
 use std::{array, io};
 use thiserror::Error;
 
-// The page, its cells, and what was written to it.
+// The page and its cells.
 #[derive(Drop)]
 pub struct Week {
     page: Page<KindField>,
     cells: [u16; 320],
-    written: Contents,
 }
 
 // Message symbols and heights.
 #[derive(Drop)]
-struct Contents {
+pub struct Contents {
     symbols: [u16; 256],
     heights: [u16; 320],
 }
@@ -62,7 +69,7 @@ fn refused<F: Into<Refusal>>(fault: F) -> Trouble {
 
 impl Contents {
     // The label's letters, and how dark they are; check columns have the height of a plain letter.
-    fn of_label() -> Contents {
+    pub(crate) fn of_label() -> Contents {
         Contents {
             symbols: array::from_fn(|i| u16::from(LETTERS[i])),
             heights: array::from_fn(|i| match i % 40 {
@@ -89,20 +96,42 @@ impl Contents {
         Ok(())
     }
 
-    // Whether these are other contents than those that were written, where heights in marked columns are to be 0.
-    fn differ(&self, written: &Contents, marked: &[u16]) -> bool {
-        for (i, height) in self.heights.iter().enumerate() {
-            let wanted = if marked.contains(&((i % 40) as u16)) {
-                0
-            } else {
-                written.heights[i]
-            };
-            if *height != wanted {
-                return true;
-            }
+    // The height at place i that is to be read: 0 in a marked column.
+    fn kept_height(&self, marked: &[u16], columns: usize, i: usize) -> u16
+        requires place { i < 320 }
+        requires columns { 0 < columns }
+        ensures { result ≡ (if among (i % columns) marked.now then 0 else slice_index self.now.heights i) }
+    {
+        if is_marked(marked, i % columns) {
+            0
+        } else {
+            self.heights[i]
         }
-        self.symbols != written.symbols
     }
+
+    // What is to be read of a page to which these were written.
+    fn kept_by(&self, page: &Page<KindField>) -> Contents
+        ensures symbols { result.symbols ≡ self.now.symbols }
+        ensures heights { result.heights ≡ tabled 320 (λ i. if among (i % page.now.plan.numbers.columns) (marking page.now.plan) then 0 else slice_index self.now.heights i) }
+    {
+        let columns = usize::from(page.numbers().columns);
+        let marked = page.marked();
+        Contents {
+            symbols: self.symbols,
+            heights: array::from_fn(|i| self.kept_height(marked, columns, i)),
+        }
+    }
+}
+
+// Says that what was read is what was written, but for what this many dead columns have lost.
+fn conclude(rt: &HostRuntime, dead: usize) -> Result<(), Trouble> {
+    match dead {
+        0 => println!(rt; "Every letter and every height is as it was written.")?,
+        dead => println!(rt;
+            "Every letter and every height is as it was written, but for the heights of {dead} dead columns: they are lost, and read as 0."
+        )?,
+    }
+    Ok(())
 }
 
 // The letters that symbols stand for.
@@ -116,11 +145,12 @@ fn text(heap: Global, symbols: &[u16]) -> Result<String, AllocError> {
 
 impl Week {
     // A page is ordered, and the label is written to it.
-    pub fn monday(rt: &HostRuntime) -> Result<Week, Trouble> {
+    pub(crate) fn monday(rt: &HostRuntime, label: &Contents) -> Result<Week, Trouble>
+        ensures { IfOk result (λ week. Written (over week.page) (buffers label.now.symbols label.now.heights) week.cells) }
+    {
         let page = order_kind(KIND, NUMBERS).map_err(refused)?;
         let mut cells = [0; 320];
-        let written = Contents::of_label();
-        page.write(&mut cells, &written.symbols, &written.heights)
+        page.write(&mut cells, &label.symbols, &label.heights)
             .map_err(refused)?;
         println!(rt;
             "Monday. A page of kind {KIND} is ordered: {} rows of {} cells, {} of each for checks.",
@@ -133,16 +163,14 @@ impl Week {
         println!(rt;
             "A label is written: a letter is a cell's symbol, and how dark it is printed is the cell's height."
         )?;
-        written.show(rt)?;
-        Ok(Week {
-            page,
-            cells,
-            written,
-        })
+        label.show(rt)?;
+        Ok(Week { page, cells })
     }
 
     // Charge creeps up in some cells.
-    pub fn tuesday(&mut self, rt: &HostRuntime) -> Result<(), Trouble> {
+    pub(crate) fn tuesday(&mut self, rt: &HostRuntime, label: &Contents) -> Result<(), Trouble>
+        ensures { OnOk result (ReadsAs (over self.new.page) (state self.new.page.plan self.new.cells) (buffers label.now.symbols label.now.heights)) }
+    {
         println!(rt; "Tuesday. Charge creeps up in some cells.")?;
         for (row, column, amount) in CREEPS {
             self.page
@@ -150,11 +178,11 @@ impl Week {
                 .map_err(refused)?;
             println!(rt; "    Row {row}, column {column}: up by {amount} levels.")?;
         }
-        self.read(rt, &self.page, &self.cells)
+        read(rt, &self.page, &self.cells, label)
     }
 
     // Two columns are found dead, and marked; their cells read anything.
-    pub fn wednesday(&mut self, rt: &HostRuntime) -> Result<(), Trouble> {
+    pub(crate) fn wednesday(&mut self, rt: &HostRuntime) -> Result<(), Trouble> {
         for column in DEAD {
             self.page.mark(column).map_err(refused)?;
             for (row, reading) in GARBAGE.iter().enumerate() {
@@ -170,16 +198,18 @@ impl Week {
     }
 
     // The page is scrubbed and read back.
-    pub fn thursday(&mut self, rt: &HostRuntime) -> Result<(), Trouble> {
+    pub(crate) fn thursday(&mut self, rt: &HostRuntime, label: &Contents) -> Result<(), Trouble>
+        ensures { OnOk result (ReadsAs (over self.new.page) (state self.new.page.plan self.new.cells) (buffers label.now.symbols label.now.heights)) }
+    {
         let (drifted, risen) = self.page.scrub(&mut self.cells).map_err(refused)?;
         println!(rt;
             "Thursday. The page is scrubbed. Cells set back to their levels: {drifted}, by {risen} levels in all."
         )?;
-        self.read(rt, &self.page, &self.cells)
+        read(rt, &self.page, &self.cells, label)
     }
 
     // The page leaves as an image. Whoever opens it takes the page from it, and the cells row by row.
-    pub fn friday(&self, rt: &HostRuntime) -> Result<(), Trouble> {
+    pub(crate) fn friday(&self, rt: &HostRuntime, label: &Contents) -> Result<(), Trouble> {
         let mut image = [0; 1536];
         save(&self.page, &self.cells, &mut image).map_err(refused)?;
         println!(rt;
@@ -192,26 +222,28 @@ impl Week {
         for (row, cells) in rows.iter_mut().enumerate() {
             opened.row(row as u16, cells).map_err(refused)?;
         }
-        self.read(rt, opened.page(), &cells)
+        read(rt, opened.page(), &cells, label)
     }
+}
 
-    // Reads the cells of a page, shows the text, and says whether it is what was written.
-    fn read(&self, rt: &HostRuntime, page: &Page<KindField>, cells: &[u16]) -> Result<(), Trouble> {
-        let mut read = Contents::empty();
-        let (drifted, risen) = page
-            .read(cells, &mut read.symbols, &mut read.heights)
-            .map_err(refused)?;
-        println!(rt; "It is read. Cells above their levels: {drifted}, by {risen} levels in all.")?;
-        read.show(rt)?;
-        if read.differ(&self.written, page.marked()) {
-            return Err(Trouble::Differs);
-        }
-        match page.marked().len() {
-            0 => println!(rt; "Every letter and every height is as it was written.")?,
-            dead => println!(rt;
-                "Every letter and every height is as it was written, but for the heights of {dead} dead columns: they are lost, and read as 0."
-            )?,
-        }
-        Ok(())
+// Reads the cells of a page, shows the text, and says whether it is what was written.
+fn read(
+    rt: &HostRuntime,
+    page: &Page<KindField>,
+    cells: &[u16],
+    written: &Contents,
+) -> Result<(), Trouble>
+    ensures { OnOk result (ReadsAs (over page.now) (state page.now.plan cells.now) (buffers written.now.symbols written.now.heights)) }
+{
+    let mut read = Contents::empty();
+    let (drifted, risen) = page
+        .read(cells, &mut read.symbols, &mut read.heights)
+        .map_err(refused)?;
+    println!(rt; "It is read. Cells above their levels: {drifted}, by {risen} levels in all.")?;
+    read.show(rt)?;
+    let kept = written.kept_by(page);
+    if read.symbols != kept.symbols || read.heights != kept.heights {
+        return Err(Trouble::Differs);
     }
+    conclude(rt, page.marked().len())
 }
