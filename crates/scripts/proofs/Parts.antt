@@ -1,15 +1,16 @@
 -- Words of a line by their places.
-use Rattle.std.proofs.Common.{◌≡◌, ℕ, suc, ◌+◌, ◌-◌, ◌<◌, ◌≤◌, Bool, true, false, cond, List, [], ◌∷◌, ◌++◌, map, length, get_or, take, Some, Bor, refl, sym, ap, ◌∙◌, subst, ⊎_elim, arith, length-take-le, length-drop}
-use Rattle.std.specs.List.{slice_split, onto_first, count_by, position_or_len, before_first, after_first}
+use Rattle.std.proofs.Common.{◌≡◌, ℕ, suc, ◌+◌, ◌-◌, ◌<◌, ◌≤◌, Bool, true, false, cond, not, ltb, List, [], ◌∷◌, ◌++◌, ◌≢◌, map, length, get_or, take, drop, Some, None, is_some, Option, Bor, refl, sym, ap, ◌∙◌, subst, ⊎_elim, arith, length-take-le, length-drop}
+use Rattle.std.specs.Option.{MatchOption}
+use Rattle.std.specs.List.{count_by, position_or_len, after_first}
 use Rattle.std.proofs.lemmas.List.Splits.{slice_split_none, slice_split_first, length-slice_split}
 use Rattle.std.proofs.lemmas.List.Sums.{fails_before_first}
 use Rattle.std.proofs.lemmas.List.Elements.{All-from_get_or}
+use Rattle.std.proofs.lemmas.List.Recursion.{is_position_or_len}
 use Rattle.std.proofs.lemmas.Bool.{cases_lt, false≢true}
-use Rattle.std.proofs.lemmas.List.{take_more, get_or-map, map_push, get_or-take, get_or-drop}
-use Rattle.std.proofs.lemmas.Simd.{map-map}
+use Rattle.std.proofs.lemmas.List.{take_more, get_or-map, map_push, get_or-take, get_or-drop, take_all, take-map, drop-map}
 use lib.ListN.{length-map}
 use Rattle.scripts.specs.Script.{number_of}
-use Rattle.scripts.specs.Commands.{texts, slash_here, AreNumbers, BadNumber, Wrong}
+use Rattle.scripts.specs.Commands.{texts, slash_here, InTwo, AreNumbers, BadNumber, Wrong}
 use Rattle.scripts.specs.declared.command.LineFault.{LineFault}
 use Rattle.scripts.specs.declared.command.LineFault.TheVariants.{NoCommand, Form, NoNumber, NoByte, NoBytes, NoPage, NoImage, NoPlace, NoMemory}
 
@@ -21,74 +22,70 @@ numbers_more ws d i n ns within is h =
     ∙ (λ j. h j ++ (ap number_of (get_or-map (λ w. w.now) ws i d [] within) ∙ is) j ∷ [])
     ∙ sym (map_push Some ns n)
 
--- parts of what f reads are what f reads of the parts
-module _ {X Y : Type 0} (p : Y → Bool) (f : X → Y) where
-  onto_mapped : (x : X) (parts : List (List X)) → onto_first (f x) (map (map f) parts) ≡ map (map f) (onto_first x parts)
-  onto_mapped x [] = refl
-  onto_mapped x (part ∷ parts) = refl
-
-  split_mapped : (xs : List X) → slice_split p (map f xs) ≡ map (map f) (slice_split (λ x. p (f x)) xs)
-  split_mapped [] = refl
-  split_mapped (x ∷ xs) = step (p (f x)) (split_mapped xs)
-    where
-      step : (b : Bool) → slice_split p (map f xs) ≡ map (map f) (slice_split (λ y. p (f y)) xs)
-          → cond b ([] ∷ slice_split p (map f xs)) (onto_first (f x) (slice_split p (map f xs))) ≡ map (map f) (cond b ([] ∷ slice_split (λ y. p (f y)) xs) (onto_first x (slice_split (λ y. p (f y)) xs)))
-      step true e = ap (λ l. [] ∷ l) e
-      step false e = ap (onto_first (f x)) e ∙ onto_mapped x _
-
--- whether a list is cut, by the number of its parts
+-- how many elements pass, by the first that does
 module _ {X : Type 0} (p : X → Bool) (xs : List X) (d : X) where
-  uncut : length xs ≤ position_or_len p xs → slice_split p xs ≡ xs ∷ []
-  uncut past = slice_split_none p xs (All-from_get_or (λ x. p x ≡ false) xs d (λ i h. fails_before_first p xs i d (omega arith)))
+  uncounted : length xs ≤ position_or_len p xs → count_by p xs ≡ 0
+  uncounted past =
+      let e = slice_split_none p xs (All-from_get_or (λ x. p x ≡ false) xs d (λ i h. fails_before_first p xs i d (omega arith))) in
+      omega (arith, ap length e, length-slice_split p xs)
 
-  one_part : (part : List X) → slice_split p xs ≡ part ∷ [] → (part ≡ xs) × (length xs ≤ position_or_len p xs)
-  one_part part h =
-      ⊎_elim
-      (λ cut. absurd (omega (arith, ap length h, ap length (slice_split_first p xs d cut), length-slice_split p (after_first p xs))))
-      (λ past. let e = uncut past in (cc, past))
-      (cases_lt (position_or_len p xs) (length xs))
+  counted : position_or_len p xs < length xs → count_by p xs ≡ 1 + count_by p (after_first p xs)
+  counted cut = omega (arith, ap length (slice_split_first p xs d cut), length-slice_split p xs, length-slice_split p (after_first p xs))
 
--- two parts stand before and after one place
-pub record InTwo {X : Type 0} (p : X → Bool) (xs before after : List X) : Type 0 where
-  pub one : count_by p xs ≡ 1
-  pub within : position_or_len p xs < length xs
-  pub front : before ≡ before_first p xs
-  pub back : after ≡ after_first p xs
-  pub clean : length after ≤ position_or_len p after
+turned : (b : Bool) (n : ℕ) → cond (not b) (1 + n) 0 ≡ cond b 0 (1 + n)
+turned true n = refl
+turned false n = refl
 
-in_two : {X : Type 0} (p : X → Bool) (xs before after : List X) (d : X) → slice_split p xs ≡ before ∷ after ∷ [] → InTwo p xs before after
-in_two p xs before after d h =
-    ⊎_elim
-    (λ cut.
-    let e = slice_split_first p xs d cut in
-    let last : slice_split p (after_first p xs) ≡ after ∷ [] = cc in
-    let told = one_part p (after_first p xs) d after last in
-    record {
-      one = omega (arith, ap length h, length-slice_split p xs);
-      within = cut;
-      front = cc;
-      back = told.0;
-      clean = rw told.0 told.1;
-    })
-    (λ past. absurd (omega (arith, ap length h, ap length (uncut p xs d past))))
-    (cases_lt (position_or_len p xs) (length xs))
+-- the first slash, of words and of what they hold
+module _ (ws : List (Bor (List ℕ))) where
+  abbrev Place : ℕ
+  Place = position_or_len (λ w. slash_here w.now) ws
 
-pair : {X : Type 0} (xs : List X) (d : X) → length xs ≡ 2 → xs ≡ get_or xs 0 d ∷ get_or xs 1 d ∷ []
-pair (x ∷ y ∷ []) d h = refl
-pair [] d h = absurd (omega arith)
-pair (x ∷ []) d h = absurd (omega arith)
-pair (x ∷ y ∷ z ∷ xs) d h = absurd (omega arith)
+  same_place : position_or_len slash_here (texts ws) ≡ Place
+  same_place = is_position_or_len (λ vs. position_or_len slash_here (texts vs)) (λ w. slash_here w.now) refl (λ w vs. turned (slash_here w.now) (position_or_len slash_here (texts vs))) ws
 
--- the words of a write, by the parts into which slashes cut them
-module _ (ws : List (Bor (List ℕ))) (parts items : List (Bor (List (Bor (List ℕ))))) (are : parts ≡ items) (cut : map (λ part. part.now) items ≡ slice_split (λ w. slash_here w.now) ws) where
-  cut_texts : slice_split slash_here (texts ws) ≡ map (λ part. texts part.now) parts
-  cut_texts = split_mapped slash_here (λ w. w.now) ws ∙ ap (map texts) (sym cut ∙ ap (map (λ part. part.now)) (sym are)) ∙ map-map texts (λ part. part.now) parts
+  pub slash_told : (r : Option ℕ) → r ≡ cond (ltb Place (length ws)) (Some Place) None → MatchOption r (count_by slash_here (texts ws) ≡ 0) (λ i. (i < length ws) × (i ≡ position_or_len slash_here (texts ws)))
+  slash_told r e = subst (λ o. MatchOption o (count_by slash_here (texts ws) ≡ 0) (λ i. (i < length ws) × (i ≡ position_or_len slash_here (texts ws)))) (sym e) (by (ltb Place (length ws)) refl)
+    where
+      by : (b : Bool) → ltb Place (length ws) ≡ b → MatchOption (cond b (Some Place) None) (count_by slash_here (texts ws) ≡ 0) (λ i. (i < length ws) × (i ≡ position_or_len slash_here (texts ws)))
+      by true l = (grind arith, sym same_place)
+      by false l = let past : length ws ≤ Place = grind arith in uncounted slash_here (texts ws) [] (omega (arith, past, same_place, length-map ws (λ w. w.now)))
 
-  pub other_parts : (length parts ≡ 2 → ⊥) → count_by slash_here (texts ws) ≡ 1 → ⊥
-  other_parts h one = h (omega (arith, ap length cut_texts, length-slice_split slash_here (texts ws), length-map parts (λ part. texts part.now)))
+  -- words that one slash cuts, or that a second one cuts again
+  module _ (i : ℕ) (at : (i < length ws) × (i ≡ position_or_len slash_here (texts ws))) where
+    cut_count : count_by slash_here (texts ws) ≡ 1 + count_by slash_here (after_first slash_here (texts ws))
+    cut_count = counted slash_here (texts ws) [] (omega (arith, at.0, at.1, length-map ws (λ w. w.now)))
 
-  pub two_parts : length parts ≡ 2 → (d : _) → InTwo slash_here (texts ws) (texts (get_or parts 0 d).now) (texts (get_or parts 1 d).now)
-  two_parts h d = in_two slash_here (texts ws) _ _ [] (cut_texts ∙ ap (map (λ part. texts part.now)) (pair parts d h))
+    rest_texts : texts (take (length ws - (i + 1)) (drop (i + 1) ws)) ≡ after_first slash_here (texts ws)
+    rest_texts =
+        ap texts (take_all (length ws - (i + 1)) (drop (i + 1) ws) (omega (arith, length-drop (i + 1) ws)))
+        ∙ sym (drop-map (λ w. w.now) (i + 1) ws)
+        ∙ ap (λ n. drop (n + 1) (texts ws)) at.1
+
+    -- what is found in the words after it
+    abbrev After : List (Bor (List ℕ))
+    After = take (length ws - (i + 1)) (drop (i + 1) ws)
+
+    module _ (r : Option ℕ) (told : MatchOption r (count_by slash_here (texts After) ≡ 0) (λ j. (j < length After) × (j ≡ position_or_len slash_here (texts After)))) where
+      pub cut_twice : is_some r ≡ true → count_by slash_here (texts ws) ≢ 1
+      cut_twice = by r told
+        where
+          by : (o : Option ℕ) → MatchOption o (count_by slash_here (texts After) ≡ 0) (λ j. (j < length After) × (j ≡ position_or_len slash_here (texts After))) → is_some o ≡ true → count_by slash_here (texts ws) ≢ 1
+          by None none some = absurd (false≢true some)
+          by (Some j) second some = λ one.
+              let more = counted slash_here (texts After) [] (omega (arith, second.0, second.1, length-map After (λ w. w.now))) in
+              omega (arith, one, cut_count, more, ap (count_by slash_here) rest_texts)
+
+      pub cut_once : is_some r ≡ false → InTwo (texts ws) (texts (take i ws)) (texts After)
+      cut_once = by r told
+        where
+          by : (o : Option ℕ) → MatchOption o (count_by slash_here (texts After) ≡ 0) (λ j. (j < length After) × (j ≡ position_or_len slash_here (texts After))) → is_some o ≡ false → InTwo (texts ws) (texts (take i ws)) (texts After)
+          by None none some = record {
+            one = omega (arith, cut_count, none, ap (count_by slash_here) rest_texts);
+            front = sym (take-map (λ w. w.now) i ws) ∙ ap (λ n. take n (texts ws)) at.1;
+            back = rest_texts;
+          }
+          by (Some j) second some = absurd (false≢true (sym some))
 
 -- a word of a part that is no number, and no slash, is what is wrong with the line
 bad_part : (name : List ℕ) (ws part : List (List ℕ)) (skip : ℕ) → skip + length part ≤ length ws
@@ -109,13 +106,23 @@ bad_part name ws part skip fits at NoPage h = absurd h
 bad_part name ws part skip fits at NoImage h = absurd h
 bad_part name ws part skip fits at NoPlace h = absurd h
 
-module _ (name : List ℕ) (ws before after : List (List ℕ)) (cut : InTwo slash_here ws before after) (fault : LineFault) where
+module _ (name : List ℕ) (ws before after : List (List ℕ)) (cut : InTwo ws before after) (fault : LineFault) where
+  within : position_or_len slash_here ws < length ws
+  within = ⊎_elim (λ h. h) (λ past. absurd (omega (arith, cut.one, uncounted slash_here ws [] past))) (cases_lt (position_or_len slash_here ws) (length ws))
+
+  clean : length after ≤ position_or_len slash_here after
+  clean =
+      ⊎_elim
+      (λ again. absurd (omega (arith, cut.one, counted slash_here ws [] within, ap (count_by slash_here) cut.back, counted slash_here after [] again)))
+      (λ past. past)
+      (cases_lt (position_or_len slash_here after) (length after))
+
   long : length before ≡ position_or_len slash_here ws
-  long = ap length cut.front ∙ length-take-le _ ws (omega (arith, cut.within))
+  long = ap length cut.front ∙ length-take-le _ ws (omega (arith, within))
 
   pub front_wrong : BadNumber 2 before fault → Wrong (name ∷ ws) fault
   front_wrong =
-      bad_part name ws before 0 (omega (arith, long, cut.within))
+      bad_part name ws before 0 (omega (arith, long, within))
       (λ i h.
       let e : get_or ws i [] ≡ get_or before i [] = sym (ap (λ l. get_or l i []) cut.front ∙ get_or-take _ ws i [] (omega (arith, long))) in
       let zero : 0 + i ≡ i = omega arith in
@@ -125,7 +132,7 @@ module _ (name : List ℕ) (ws before after : List (List ℕ)) (cut : InTwo slas
   pub back_wrong : (n : ℕ) → n ≡ length before → BadNumber (n + 3) after fault → Wrong (name ∷ ws) fault
   back_wrong n is h =
       let skip : n + 3 ≡ position_or_len slash_here ws + 1 + 2 = omega (arith, long) in
-      bad_part name ws after (position_or_len slash_here ws + 1) (omega (arith, ap length cut.back, cut.within, length-drop (position_or_len slash_here ws + 1) ws))
-      (λ i below. (sym (ap (λ l. get_or l i []) cut.back ∙ get_or-drop _ ws i []), fails_before_first slash_here after i [] (omega (arith, cut.clean))))
+      bad_part name ws after (position_or_len slash_here ws + 1) (omega (arith, ap length cut.back, within, length-drop (position_or_len slash_here ws + 1) ws))
+      (λ i below. (sym (ap (λ l. get_or l i []) cut.back ∙ get_or-drop _ ws i []), fails_before_first slash_here after i [] (omega (arith, clean))))
       fault
       (subst (λ k. BadNumber k after fault) skip h)

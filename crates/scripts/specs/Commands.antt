@@ -29,6 +29,12 @@ slash_here (b ∷ c ∷ w) = false
 abbrev pub OneSlash : List (List ℕ) → Type 0
 OneSlash ws = count_by slash_here (drop 1 ws) ≡ 1
 
+-- these words stand before the one slash among words, and these after it
+pub record InTwo (ws before after : List (List ℕ)) : Type 0 where
+  pub one : count_by slash_here ws ≡ 1
+  pub front : before ≡ before_first slash_here ws
+  pub back : after ≡ after_first slash_here ws
+
 -- the word by which a command is called
 abbrev pub word_of : Name → List ℕ
 word_of name.Order = codes "order"
