@@ -1,5 +1,5 @@
 // The calls read and scrub: what the cells decode to, or why they are refused.
-ghost use Rattle.std.specs.Prelude.{◌≡◌, ℕ, ◌+◌, ◌-◌, ◌*◌, ◌/◌, ◌%◌, ◌<◌, ◌≤◌, not, ◌&&◌, nat_le, nat_lt, length, if◌then◌else◌, IfSome, IfOk, OnOk, slice_index};
+ghost use Rattle.std.specs.Prelude.{◌≡◌, ℕ, ◌+◌, ◌-◌, ◌*◌, ◌/◌, ◌%◌, ◌<◌, ◌≤◌, not, ◌&&◌, nat_le, nat_lt, length, if◌then◌else◌, None, IfSome, IfOk, OnOk, slice_index};
 ghost use Rattle.basics.specs.Checks.{check, verdict, fault_of, lowest};
 ghost use Rattle.basics.specs.Lists.{Updated};
 ghost use Rattle.algebra.specs.Rows.{among};
@@ -205,12 +205,12 @@ impl<'a, F: Field + Drop> Readings<'a, F> {
         (drifted, risen)
     }
 
-    // Checks the cells and decodes them into `levels`; how many drifted, and by how much in all.
+    // Decodes the cells, which were checked, into `levels`; how many drifted, and by how much in all.
     fn recover(&self, levels: &mut [u16]) -> Result<(u32, u32), PageFault>
-        requires { length levels.old ≡ cell_count (of_page self.now) }
+        requires levels { length levels.old ≡ cell_count (of_page self.now) }
+        requires checked { readings_fault (of_page self.now) (seen self.now) ≡ None }
         ensures { Recovered (of_page self.now) (seen self.now) levels.new result }
     {
-        self.check()?;
         self.decode(levels)?;
         Ok(self.tally(levels))
     }
@@ -308,6 +308,7 @@ impl<F: Field + Drop> Page<F> {
         self.keeps();
         let readings = Readings::new(self, cells)?;
         self.check_buffers(symbols, heights)?;
+        readings.check()?;
         let mut page = [0; 8192];
         let levels = &mut page[0..cells.len()];
         let counts = readings.recover(levels)?;
@@ -322,6 +323,7 @@ impl<F: Field + Drop> Page<F> {
         ensures { Scrubs (over self.now) (state self.now.plan cells.old) result cells.new }
     {
         let readings = Readings::new(self, cells)?;
+        readings.check()?;
         let mut page = [0; 8192];
         let levels = &mut page[0..cells.len()];
         let pair = readings.recover(levels)?;
