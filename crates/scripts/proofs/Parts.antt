@@ -1,6 +1,5 @@
 -- Words of a line by their places.
 use Rattle.std.proofs.Common.{◌≡◌, ℕ, suc, ◌+◌, ◌-◌, ◌<◌, ◌≤◌, Bool, true, false, cond, not, ltb, List, [], ◌∷◌, ◌++◌, ◌≢◌, map, length, get_or, take, drop, Some, None, is_some, Option, Bor, refl, sym, ap, ◌∙◌, subst, ⊎_elim, arith, length-take-le, length-drop}
-use Rattle.std.specs.Option.{MatchOption}
 use Rattle.std.specs.List.{count_by, position_or_len, after_first}
 use Rattle.std.proofs.lemmas.List.Splits.{slice_split_none, slice_split_first, length-slice_split}
 use Rattle.std.proofs.lemmas.List.Sums.{fails_before_first}
@@ -10,7 +9,7 @@ use Rattle.std.proofs.lemmas.Bool.{cases_lt, false≢true}
 use Rattle.std.proofs.lemmas.List.{take_more, get_or-map, map_push, get_or-take, get_or-drop, take_all, take-map, drop-map}
 use lib.ListN.{length-map}
 use Rattle.scripts.specs.Script.{number_of}
-use Rattle.scripts.specs.Commands.{texts, slash_here, InTwo, AreNumbers, BadNumber, Wrong}
+use Rattle.scripts.specs.Commands.{texts, slash_here, FirstSlash, InTwo, AreNumbers, BadNumber, Wrong}
 use Rattle.scripts.specs.declared.command.LineFault.{LineFault}
 use Rattle.scripts.specs.declared.command.LineFault.TheVariants.{NoCommand, Form, NoNumber, NoByte, NoBytes, NoPage, NoImage, NoPlace, NoMemory}
 
@@ -36,7 +35,7 @@ turned : (b : Bool) (n : ℕ) → cond (not b) (1 + n) 0 ≡ cond b 0 (1 + n)
 turned true n = refl
 turned false n = refl
 
--- the first slash, of words and of what they hold
+-- the first slash, by a search of lent words
 module _ (ws : List (Bor (List ℕ))) where
   abbrev Place : ℕ
   Place = position_or_len (λ w. slash_here w.now) ws
@@ -44,48 +43,40 @@ module _ (ws : List (Bor (List ℕ))) where
   same_place : position_or_len slash_here (texts ws) ≡ Place
   same_place = is_position_or_len (λ vs. position_or_len slash_here (texts vs)) (λ w. slash_here w.now) refl (λ w vs. turned (slash_here w.now) (position_or_len slash_here (texts vs))) ws
 
-  pub slash_told : (r : Option ℕ) → r ≡ cond (ltb Place (length ws)) (Some Place) None → MatchOption r (count_by slash_here (texts ws) ≡ 0) (λ i. (i < length ws) × (i ≡ position_or_len slash_here (texts ws)))
-  slash_told r e = subst (λ o. MatchOption o (count_by slash_here (texts ws) ≡ 0) (λ i. (i < length ws) × (i ≡ position_or_len slash_here (texts ws)))) (sym e) (by (ltb Place (length ws)) refl)
+  pub slash_told : (r : Option ℕ) → r ≡ cond (ltb Place (length ws)) (Some Place) None → FirstSlash ws r
+  slash_told r e = subst (FirstSlash ws) (sym e) (by (ltb Place (length ws)) refl)
     where
-      by : (b : Bool) → ltb Place (length ws) ≡ b → MatchOption (cond b (Some Place) None) (count_by slash_here (texts ws) ≡ 0) (λ i. (i < length ws) × (i ≡ position_or_len slash_here (texts ws)))
+      by : (b : Bool) → ltb Place (length ws) ≡ b → FirstSlash ws (cond b (Some Place) None)
       by true l = (grind arith, sym same_place)
       by false l = let past : length ws ≤ Place = grind arith in uncounted slash_here (texts ws) [] (omega (arith, past, same_place, length-map ws (λ w. w.now)))
 
-  -- words that one slash cuts, or that a second one cuts again
-  module _ (i : ℕ) (at : (i < length ws) × (i ≡ position_or_len slash_here (texts ws))) where
-    cut_count : count_by slash_here (texts ws) ≡ 1 + count_by slash_here (after_first slash_here (texts ws))
-    cut_count = counted slash_here (texts ws) [] (omega (arith, at.0, at.1, length-map ws (λ w. w.now)))
+  -- one slash more stands among the words than after the first
+  one_more_than_after : (i : ℕ) → FirstSlash ws (Some i) → count_by slash_here (texts ws) ≡ 1 + count_by slash_here (after_first slash_here (texts ws))
+  one_more_than_after i at = counted slash_here (texts ws) [] (omega (arith, at.0, at.1, length-map ws (λ w. w.now)))
 
-    rest_texts : texts (take (length ws - (i + 1)) (drop (i + 1) ws)) ≡ after_first slash_here (texts ws)
-    rest_texts =
-        ap texts (take_all (length ws - (i + 1)) (drop (i + 1) ws) (omega (arith, length-drop (i + 1) ws)))
-        ∙ sym (drop-map (λ w. w.now) (i + 1) ws)
-        ∙ ap (λ n. drop (n + 1) (texts ws)) at.1
+-- the words after the first slash, in which a second one is looked for
+module _ (ws : List (Bor (List ℕ))) (i : ℕ) (at : FirstSlash ws (Some i)) where
+  abbrev After : List (Bor (List ℕ))
+  After = take (length ws - (i + 1)) (drop (i + 1) ws)
 
-    -- what is found in the words after it
-    abbrev After : List (Bor (List ℕ))
-    After = take (length ws - (i + 1)) (drop (i + 1) ws)
+  after_texts : texts After ≡ after_first slash_here (texts ws)
+  after_texts =
+      ap texts (take_all (length ws - (i + 1)) (drop (i + 1) ws) (omega (arith, length-drop (i + 1) ws)))
+      ∙ sym (drop-map (λ w. w.now) (i + 1) ws)
+      ∙ ap (λ n. drop (n + 1) (texts ws)) at.1
 
-    module _ (r : Option ℕ) (told : MatchOption r (count_by slash_here (texts After) ≡ 0) (λ j. (j < length After) × (j ≡ position_or_len slash_here (texts After)))) where
-      pub cut_twice : is_some r ≡ true → count_by slash_here (texts ws) ≢ 1
-      cut_twice = by r told
-        where
-          by : (o : Option ℕ) → MatchOption o (count_by slash_here (texts After) ≡ 0) (λ j. (j < length After) × (j ≡ position_or_len slash_here (texts After))) → is_some o ≡ true → count_by slash_here (texts ws) ≢ 1
-          by None none some = absurd (false≢true some)
-          by (Some j) second some = λ one.
-              let more = counted slash_here (texts After) [] (omega (arith, second.0, second.1, length-map After (λ w. w.now))) in
-              omega (arith, one, cut_count, more, ap (count_by slash_here) rest_texts)
+  pub cut_twice : (r : Option ℕ) → FirstSlash After r → is_some r ≡ true → count_by slash_here (texts ws) ≢ 1
+  cut_twice None none some one = absurd (false≢true some)
+  cut_twice (Some j) second some one =
+      omega (arith, one, one_more_than_after ws i at, one_more_than_after After j second, ap (count_by slash_here) after_texts)
 
-      pub cut_once : is_some r ≡ false → InTwo (texts ws) (texts (take i ws)) (texts After)
-      cut_once = by r told
-        where
-          by : (o : Option ℕ) → MatchOption o (count_by slash_here (texts After) ≡ 0) (λ j. (j < length After) × (j ≡ position_or_len slash_here (texts After))) → is_some o ≡ false → InTwo (texts ws) (texts (take i ws)) (texts After)
-          by None none some = record {
-            one = omega (arith, cut_count, none, ap (count_by slash_here) rest_texts);
-            front = sym (take-map (λ w. w.now) i ws) ∙ ap (λ n. take n (texts ws)) at.1;
-            back = rest_texts;
-          }
-          by (Some j) second some = absurd (false≢true (sym some))
+  pub cut_once : (r : Option ℕ) → FirstSlash After r → is_some r ≡ false → InTwo (texts ws) (texts (take i ws)) (texts After)
+  cut_once None none some = record {
+    one = omega (arith, one_more_than_after ws i at, none, ap (count_by slash_here) after_texts);
+    front = sym (take-map (λ w. w.now) i ws) ∙ ap (λ n. take n (texts ws)) at.1;
+    back = after_texts;
+  }
+  cut_once (Some j) second some = absurd (false≢true (sym some))
 
 -- a word of a part that is no number, and no slash, is what is wrong with the line
 bad_part : (name : List ℕ) (ws part : List (List ℕ)) (skip : ℕ) → skip + length part ≤ length ws

@@ -1,6 +1,6 @@
 -- What the words of a line ask for, and what is wrong with them where they ask for nothing.
 use Rattle.std.specs.Prelude.{◌≡◌, ℕ, ◌+◌, ◌-◌, ◌<◌, ◌≤◌, Bool, true, false, List, [], ◌∷◌, map, length, drop, Some, None, Ok, Err, vec_items, codes, Option, Result, ◌==◌, ◌≢◌, ◌⊎◌, slice_index_or, count_by}
-use Rattle.std.specs.List.{before_first, after_first}
+use Rattle.std.specs.List.{position_or_len, before_first, after_first}
 use Rattle.std.specs.Borrow.{Bor}
 use Rattle.hex.specs.Hex.{decode_of}
 use Rattle.scripts.specs.Script.{number_of}
@@ -28,6 +28,11 @@ slash_here (b ∷ c ∷ w) = false
 -- after the first word there is one slash
 abbrev pub OneSlash : List (List ℕ) → Type 0
 OneSlash ws = count_by slash_here (drop 1 ws) ≡ 1
+
+-- where the first slash among lent words stands, or that there is none
+abbrev pub FirstSlash : List (Bor (List ℕ)) → Option ℕ → Type 0
+FirstSlash ws None = count_by slash_here (texts ws) ≡ 0
+FirstSlash ws (Some i) = (i < length ws) × (i ≡ position_or_len slash_here (texts ws))
 
 -- these words stand before the one slash among words, and these after it
 pub record InTwo (ws before after : List (List ℕ)) : Type 0 where

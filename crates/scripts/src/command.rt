@@ -1,10 +1,9 @@
 // The commands of a page script, and what can be wrong with a line of one.
 ghost use Rattle.std.specs.Prelude.{◌≡◌, ◌≢◌, ◌+◌, ◌<◌, ◌^◌, ◌∷◌, length, count_by, MatchResult, Some, None, Ok};
-ghost use Rattle.std.specs.List.{position_or_len};
 ghost use Rattle.std.specs.Option.{MatchOption};
 ghost use Rattle.hex.specs.Hex.{decode_of};
 ghost use Rattle.scripts.specs.Script.{words_of, number_of};
-ghost use Rattle.scripts.specs.Commands.{texts, slash_here, InTwo, AreNumbers, BadNumber, BadBytes, Understood, Parsed, word_of};
+ghost use Rattle.scripts.specs.Commands.{texts, slash_here, FirstSlash, InTwo, AreNumbers, BadNumber, BadBytes, Understood, Parsed, word_of};
 ghost use Rattle.scripts.specs.declared.command.Name.{Name};
 ghost use Rattle.scripts.specs.declared.command.Name.TheVariants as name;
 ghost use Rattle.scripts.specs.declared.command.LineFault.TheVariants.{Form, NoMemory, NoNumber};
@@ -272,14 +271,14 @@ fn is_slash(word: &[u8]) -> bool
 
 // The place of the first slash among words.
 fn slash_in(words: &[&[u8]]) -> Option<usize>
-    ensures { MatchOption result (count_by slash_here (texts words.now) ≡ 0) (λ i. (i < length words.now) × (i ≡ position_or_len slash_here (texts words.now))) }
+    ensures { FirstSlash words.now result }
 {
     words.iter().position(|word| is_slash(word))
 }
 
 // The words before and after the one slash among words; none where there is no slash, or more than one.
 fn sides<'a, 'b>(words: &'a [&'b [u8]]) -> Option<(&'a [&'b [u8]], &'a [&'b [u8]])>
-    ensures { MatchOption result (count_by slash_here (texts words.now) ≢ 1) (λ sides. InTwo (texts words.now) (texts sides.0.now) (texts sides.1.now)) }
+    ensures { MatchOption result (count_by slash_here (texts words.now) ≢ 1) (λ s. InTwo (texts words.now) (texts s.0.now) (texts s.1.now)) }
 {
     let slash = slash_in(words)?;
     let after = &words[slash + 1..];
